@@ -1,0 +1,56 @@
+-- Laws of bits as pulses: how many there are, and where they stand.
+use Prim.Native.Nat.{ℕ, zero, suc, _+_, _*_, _^_, _<_}
+use native.Mathlib.Nat.{pow-suc}
+use native.Mathlib.Omega.{arith}
+use mathlib.Core.Path.{_≡_, refl, ap, _∙_}
+use mathlib.Core.List.{List, [], _∷_, _++_}
+use lib.ListN.{length, length-append}
+use Rattle.lists.specs.Places.{tabulate}
+use Rattle.lists.proofs.PlaceLaws.{tabulate-snoc, length-tabulate}
+use Rattle.pulse.specs.declared.Class.{Class}
+use Rattle.pulse.specs.declared.Class.the-variants.{Short, Medium}
+use Rattle.byte.specs.Byte.{bits, coded, byteClasses, valueOf}
+
+-- ---- coded
+
+pub coded-append : (ds es : List ℕ) → coded (ds ++ es) ≡ coded ds ++ coded es
+unfolding coded
+coded-append [] es = refl
+coded-append (zero ∷ ds) es = ap (λ (cs : List Class). Short ∷ Medium ∷ cs) (coded-append ds es)
+coded-append (suc d ∷ ds) es = ap (λ (cs : List Class). Medium ∷ Short ∷ cs) (coded-append ds es)
+
+pub length-coded : (ds : List ℕ) → length (coded ds) ≡ 2 * length ds
+unfolding coded
+length-coded [] = refl
+length-coded (zero ∷ ds) = let r = length-coded ds in omega arith
+length-coded (suc d ∷ ds) = let r = length-coded ds in omega arith
+
+-- ---- bits
+
+pub length-bits : (k v : ℕ) → length (bits k v) ≡ k
+unfolding bits
+length-bits zero v = refl
+length-bits (suc k) v = ap suc (length-bits k _)
+
+-- ---- byteClasses
+
+pub length-byte : (b : ℕ) → length (byteClasses b) ≡ 20
+unfolding byteClasses
+length-byte b = simp (length-coded, length-append, length-bits)
+
+-- ---- valueOf
+
+value-snoc : (ds : List ℕ) (d : ℕ) → valueOf (ds ++ (d ∷ [])) ≡ valueOf ds + d * 2 ^ length ds
+unfolding valueOf
+value-snoc [] d = omega arith
+value-snoc (e ∷ ds) d = let r = value-snoc ds d in rw (pow-suc 2 (length ds)) (omega arith)
+
+pub value-next : (f : ℕ → ℕ) (count at : ℕ) → valueOf (tabulate f (suc count) at) ≡ valueOf (tabulate f count at) + f (at + count) * 2 ^ count
+value-next f count at =
+    ap valueOf (tabulate-snoc f count at) ∙ value-snoc (tabulate f count at) (f (at + count))
+    ∙ ap (λ n. valueOf (tabulate f count at) + f (at + count) * 2 ^ n) (length-tabulate f count at)
+
+pub value-lt : (f : ℕ → ℕ) → ((j : ℕ) → f j < 2) → (count at : ℕ) → valueOf (tabulate f count at) < 2 ^ count
+unfolding tabulate valueOf
+value-lt f h zero at = omega arith
+value-lt f h (suc count) at = let r = value-lt f h count (suc at) in rw (pow-suc 2 count) (omega (arith, h at))

@@ -1,0 +1,7 @@
+mod Parity
+mod PairLaws
+mod Decoding
+mod Stores
+pub mod CodingLaws
+pub mod ByteLaws
+pub mod DamageLaws

@@ -1,0 +1,57 @@
+-- `byte::put_bits` meets its contract. The invariant: what the loop has put, and the bits left to put after it, are the eight bits.
+use Prim.Native.Nat.{_-_}
+use native.Mathlib.Omega.{arith}
+use Rattle.byte.proofs.Stores.{Putting, begun, next, done}
+use Rattle.byte.proofs.put_bits.Statement.{statement}
+use Rattle.byte.proofs.put_bits.Tie as tie
+
+abbrev Inv-loop : tie.InvT-loop
+Inv-loop out₀ at b rest₀ i₀ out rest i = Putting out₀ at b out rest i
+
+abbrev μ-loop : tie.MeasureT-loop
+μ-loop out₀ at b rest₀ i₀ out rest i = 8 - i
+
+loop-holds : tie.Need-loop-holds Inv-loop μ-loop
+loop-holds c = begun _ _ _
+
+mul-put-bit : tie.Need-mul-put-bit Inv-loop μ-loop
+mul-put-bit c = omega arith
+
+add-put-bit : tie.Need-add-put-bit Inv-loop μ-loop
+add-put-bit c = omega arith
+
+put-bit-requires : tie.Need-put-bit-requires Inv-loop μ-loop
+put-bit-requires c κs = omega arith
+
+add-i : tie.Need-add-i Inv-loop μ-loop
+add-i c = omega arith
+
+loop-less : tie.Need-loop-less Inv-loop μ-loop
+loop-less c = omega arith
+
+loop-again : tie.Need-loop-again Inv-loop μ-loop
+loop-again c =
+    let h = c .before .before .before .before .before in
+    next (h .loop .inv) _ (c .before .before .before .before .loop-test .taken) (c .before .before .put-bit .ensures)
+
+same-length : tie.Need-same-length Inv-loop μ-loop
+same-length c = omega arith
+
+returns : tie.Need-returns Inv-loop μ-loop
+returns c = done (c .before .loop .inv) (c .loop-test .left)
+
+pub put-bits-spec : {M : Type 1} → statement M
+put-bits-spec =
+    tie.close
+    (tie.spec
+    Inv-loop
+    μ-loop
+    loop-holds
+    mul-put-bit
+    add-put-bit
+    put-bit-requires
+    add-i
+    loop-less
+    loop-again
+    same-length
+    returns)

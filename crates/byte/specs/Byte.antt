@@ -1,0 +1,108 @@
+-- Bytes (document 01, 'Bytes'), on the classes of pulses.
+use Prim.Native.Nat.{ℕ, zero, suc, _+_, _*_, _/_, _%_}
+use mathlib.Core.Bool.{Bool, true, false, cond, not, _&&_, _||_}
+use mathlib.Core.List.{List, [], _∷_, _++_}
+use mathlib.Core.Option.{Option, none, some}
+use lib.Dec.{eqb}
+use lib.ListN.{take, drop, getD}
+use lib.Count.{ones}
+use Rattle.lists.specs.Places.{firstFrom, tabulate}
+use Rattle.pulse.specs.declared.Class.{Class}
+use Rattle.pulse.specs.declared.Class.the-variants.{Short, Medium, Long, Noise}
+use Rattle.pulse.specs.Pulse.{pulses, same}
+use Rattle.byte.specs.declared.Pair.{Pair}
+use Rattle.byte.specs.declared.ByteRead.{ByteRead}
+use Rattle.byte.specs.declared.ByteRead.the-variants.{Good, Bad}
+
+-- ---- As written
+
+-- 0 is not odd, and each number is odd where the one before it is not
+unfoldable pub isOdd : ℕ → Bool
+isOdd zero = false
+isOdd (suc n) = not (isOdd n)
+
+-- the k lowest bits of v, lowest first
+unfoldable pub bits : ℕ → ℕ → List ℕ
+bits zero v = []
+bits (suc k) v = v % 2 ∷ bits k (v / 2)
+
+-- the ninth bit of a byte: with it the number of ones among the nine bits is odd
+unfoldable pub parityBit : ℕ → ℕ
+parityBit b = cond (isOdd (ones b)) 0 1
+
+-- bits as pulses: 0 as S M and 1 as M S
+unfoldable pub coded : List ℕ → List Class
+coded [] = []
+coded (zero ∷ ds) = Short ∷ Medium ∷ coded ds
+coded (suc d ∷ ds) = Medium ∷ Short ∷ coded ds
+
+-- the twenty pulses of a byte: the marker L M; eight bits, lowest first; the parity bit in the same coding
+unfoldable pub byteClasses : ℕ → List Class
+byteClasses b = Long ∷ Medium ∷ coded (bits 8 b ++ (parityBit b ∷ []))
+
+abbrev pub bytePulses : ℕ → List ℕ
+bytePulses b = pulses (byteClasses b)
+
+-- ---- As read
+
+-- two pulses: L M is the marker, S M is 0, M S is 1
+unfoldable pub pairOf : Class → Class → Pair
+pairOf a b = record {
+  marker = same a Long && same b Medium;
+  zero = same a Short && same b Medium;
+  one = same a Medium && same b Short;
+}
+
+-- pair 0 has to be the marker, and each other pair a bit
+abbrev pub isSound : ℕ → Pair → Bool
+isSound i p = cond (eqb i 0) (p .marker) (p .zero || p .one)
+
+-- the bit that a pair is, 0 where it is none
+abbrev pub bitOf : Pair → ℕ
+bitOf p = cond (p .one) 1 0
+
+-- the two pulses from a place on; past the end there is only noise
+unfoldable pub pairAt : List Class → ℕ → Pair
+pairAt cs p = pairOf (getD cs p Noise) (getD cs (p + 1) Noise)
+
+-- pair i of twenty pulses: 0 is the marker's, 1 to 8 are the bits', 9 is the parity bit's
+abbrev pub nthPair : List Class → ℕ → Pair
+nthPair ys i = pairAt ys (2 * i)
+
+abbrev pub nthBit : List Class → ℕ → ℕ
+nthBit ys i = bitOf (nthPair ys i)
+
+abbrev pub wrongPair : List Class → ℕ → Bool
+wrongPair ys i = not (isSound i (nthPair ys i))
+
+-- the number with these bits, lowest first
+unfoldable pub valueOf : List ℕ → ℕ
+valueOf [] = 0
+valueOf (d ∷ ds) = d + 2 * valueOf ds
+
+-- Good where no pair is wrong and the number of ones among the nine bits is odd, bad otherwise.
+abbrev pub checked : Option ℕ → ℕ → ℕ → ByteRead
+checked none value parity = cond (isOdd (ones value + parity)) (Good value) Bad
+checked (some i) value parity = Bad
+
+-- what twenty pulses are
+unfoldable pub readByte : List Class → ByteRead
+readByte ys = checked (firstFrom (wrongPair ys) 10 0) (valueOf (tabulate (nthBit ys) 8 1)) (nthBit ys 9)
+
+-- the twenty pulses from a place of a strip on; fewer, where the strip ends before
+abbrev pub twenty : List Class → ℕ → List Class
+twenty cs p = take 20 (drop p cs)
+
+-- the byte at a place of a strip
+unfoldable pub byteAt : List Class → ℕ → ByteRead
+byteAt cs p = readByte (twenty cs p)
+
+-- good, with this value
+abbrev pub isGood : ℕ → ByteRead → Bool
+isGood v (Good w) = eqb w v
+isGood v Bad = false
+
+-- bad, for whatever cause
+abbrev pub isBad : ByteRead → Bool
+isBad (Good v) = false
+isBad Bad = true

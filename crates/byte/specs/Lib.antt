@@ -1,0 +1,3 @@
+pub mod Byte
+pub mod Decoder
+pub mod Damage

@@ -1,0 +1,210 @@
+// Bytes. A byte is twenty pulses, in ten pairs: the marker, eight bits from the lowest to the highest, and a parity
+// bit, which makes the number of ones among the nine bits odd.
+//
+//   pair      0       1     2     3     4     5     6     7     8       9
+//          marker   bit 0   1     2     3     4     5     6     7    parity
+//            L M    each bit: 0 is S M, 1 is M S
+use pulse::Class;
+use pulse::Cycles;
+use pulse::Thresholds;
+ghost use Prim.Native.Nat.{_+_, _≤_};
+ghost use mathlib.Core.Path.{_≡_};
+ghost use mathlib.Core.List.{[], _∷_};
+ghost use lib.ListN.{length};
+ghost use lib.Seq.{sets};
+ghost use Rattle.lists.specs.Buffer.{hasRoom, putAt};
+ghost use Rattle.pulse.specs.Pulse.{classOf, classes, pulses};
+ghost use Rattle.byte.specs.Byte.{isOdd, bits, parityBit, coded, bytePulses, pairOf, isSound, bitOf, byteAt};
+ghost use Rattle.byte.specs.Decoder.{empty, firstWrong, fed, closed};
+
+// What twenty pulses are.
+pub enum ByteRead {
+    Good(u8),
+    Bad,
+}
+
+const PAIR_PULSES: usize = 2;
+
+const PAIRS: usize = 10;
+
+pub const BYTE_PULSES: usize = PAIR_PULSES * PAIRS;
+
+const BITS: usize = 8;
+
+// Where the parity pair stands.
+const PARITY_AT: usize = PAIR_PULSES * (1 + BITS);
+
+// The place value of the ninth bit.
+const NINTH: u32 = 256;
+
+// The byte at an index of a strip. Fewer than twenty pulses there are bad.
+pub fn read_byte(t: Thresholds, strip: &[u32], at: usize) -> ByteRead
+    ensures { λ r. ⌜ r ≡ byteAt (classes t (now (strip .entry))) at ⌝ }
+{
+    if strip.len() < BYTE_PULSES {
+        return ByteRead::Bad;
+    }
+    if strip.len() - BYTE_PULSES < at {
+        return ByteRead::Bad;
+    }
+    let mut d = Decoder::new();
+    let mut i: usize = 0;
+    while i < PAIRS {
+        let j = at + PAIR_PULSES * i;
+        d = d.feed(i, pair_of(t, Cycles(strip[j]), Cycles(strip[j + 1])));
+        i = i + 1;
+    }
+    d.close()
+}
+
+// Puts the twenty pulses of a byte at an index, and answers whether there was room. Without room nothing is put.
+pub fn put_byte(out: &mut [u32], at: usize, b: u8) -> bool
+    ensures room { λ r. ⌜ r ≡ hasRoom (now (out .entry)) at 20 ⌝ }
+    ensures put { λ _. ⌜ now (out .exit) ≡ putAt (now (out .entry)) at (bytePulses b) ⌝ }
+{
+    if out.len() < BYTE_PULSES {
+        return false;
+    }
+    if out.len() - BYTE_PULSES < at {
+        return false;
+    }
+    put_pair(out, at, Class::Long, Class::Medium);
+    put_bits(out, at + PAIR_PULSES, b);
+    put_bit(out, at + PARITY_AT, parity_bit(b));
+    true
+}
+
+// What two pulses are: L M is the marker, S M a 0, M S a 1. As flags, these are computed without a branch.
+struct Pair {
+    marker: bool,
+    zero: bool,
+    one: bool,
+}
+
+fn pair_of(t: Thresholds, first: Cycles, second: Cycles) -> Pair
+    ensures { λ r. ⌜ r ≡ pairOf (classOf t (first .0)) (classOf t (second .0)) ⌝ }
+{
+    Pair {
+        marker: pulse::is_long(t, first) & pulse::is_medium(t, second),
+        zero: pulse::is_short(t, first) & pulse::is_medium(t, second),
+        one: pulse::is_medium(t, first) & pulse::is_short(t, second),
+    }
+}
+
+// A byte that is read pair by pair: the first wrong pair, or 10, and the bits so far, the newest at the top of nine.
+struct Decoder {
+    wrong: usize,
+    bits: u32,
+}
+
+impl Decoder {
+    fn new() -> Decoder
+        ensures { λ r. ⌜ r ≡ empty ⌝ }
+    {
+        Decoder {
+            wrong: PAIRS,
+            bits: 0,
+        }
+    }
+
+    // The decoder after pair i, which follows pair i - 1.
+    fn feed(self, i: usize, p: Pair) -> Decoder
+        ensures { λ r. ⌜ r ≡ fed self i p ⌝ }
+    {
+        Decoder {
+            wrong: first_wrong(self.wrong, i, p),
+            bits: self.bits / 2 + NINTH * bit_of(p),
+        }
+    }
+
+    // The byte, after pair 9.
+    fn close(self) -> ByteRead
+        ensures { λ r. ⌜ r ≡ closed self ⌝ }
+    {
+        let value = (self.bits % NINTH) as u8;
+        let parity = self.bits / NINTH;
+        if self.wrong < PAIRS {
+            return ByteRead::Bad;
+        }
+        if is_odd(u8::count_ones(value) + parity) {
+            ByteRead::Good(value)
+        } else {
+            ByteRead::Bad
+        }
+    }
+}
+
+// Whether a pair is what pair i has to be: the marker for pair 0, a bit for every other.
+fn is_sound(i: usize, p: Pair) -> bool
+    ensures { λ r. ⌜ r ≡ isSound i p ⌝ }
+{
+    if i == 0 { p.marker } else { p.zero | p.one }
+}
+
+// The first wrong pair, with pair i after those that `wrong` speaks of.
+fn first_wrong(wrong: usize, i: usize, p: Pair) -> usize
+    ensures { λ r. ⌜ r ≡ firstWrong wrong i p ⌝ }
+{
+    if wrong < PAIRS {
+        return wrong;
+    }
+    if is_sound(i, p) {
+        return wrong;
+    }
+    i
+}
+
+// The bit that a pair is, 0 where it is none.
+fn bit_of(p: Pair) -> u32
+    ensures { λ r. ⌜ r ≡ bitOf p ⌝ }
+{
+    p.one as u32
+}
+
+fn is_odd(n: u32) -> bool
+    ensures { λ r. ⌜ r ≡ isOdd n ⌝ }
+{
+    n % 2 == 1
+}
+
+// The bit that makes the number of ones odd.
+fn parity_bit(b: u8) -> u8
+    ensures { λ r. ⌜ r ≡ parityBit b ⌝ }
+{
+    if is_odd(u8::count_ones(b)) { 0 } else { 1 }
+}
+
+fn put_pair(out: &mut [u32], at: usize, first: Class, second: Class)
+    requires { ⌜ at + 2 ≤ length (now out) ⌝ }
+    ensures { λ _. ⌜ now (out .exit) ≡ sets (now (out .entry)) at (pulses (first ∷ second ∷ [])) ⌝ }
+{
+    let one = pulse::written_as(first);
+    let two = pulse::written_as(second);
+    out[at] = one.0;
+    out[at + 1] = two.0;
+}
+
+fn put_bit(out: &mut [u32], at: usize, bit: u8)
+    requires { ⌜ at + 2 ≤ length (now out) ⌝ }
+    ensures { λ _. ⌜ now (out .exit) ≡ sets (now (out .entry)) at (pulses (coded (bit ∷ []))) ⌝ }
+{
+    if bit == 0 {
+        put_pair(out, at, Class::Short, Class::Medium);
+    } else {
+        put_pair(out, at, Class::Medium, Class::Short);
+    }
+}
+
+// Puts the eight bits of a byte.
+fn put_bits(out: &mut [u32], at: usize, b: u8)
+    requires { ⌜ at + 16 ≤ length (now out) ⌝ }
+    ensures { λ _. ⌜ now (out .exit) ≡ sets (now (out .entry)) at (pulses (coded (bits 8 b))) ⌝ }
+{
+    let mut rest = b;
+    let mut i: usize = 0;
+    while i < BITS {
+        put_bit(out, at + PAIR_PULSES * i, rest % 2);
+        rest = rest / 2;
+        i = i + 1;
+    }
+}

@@ -1,0 +1,16 @@
+-- Every case holds, by computation: the definitions are unfolded and run.
+use mathlib.Core.Path.{refl}
+use lib.Count.{ones}
+use Rattle.lists.specs.Places
+use Rattle.pulse.specs.Pulse
+use Rattle.byte.specs.Byte
+use Rattle.cases.specs.Cases.{All, cases}
+
+-- every definition of the format: to unfold this is to unfold them all
+format : Unit {0}
+unfolding Places.firstFrom Places.tabulate Pulse.classOf Pulse.same ones Byte.isOdd Byte.bits Byte.parityBit Byte.coded Byte.byteClasses Byte.pairOf Byte.pairAt Byte.valueOf Byte.readByte Byte.byteAt
+format = tt
+
+pub cases-hold : All cases
+unfolding format
+cases-hold = (refl, (refl, (refl, (refl, (refl, (refl, (refl, (refl, (refl, (refl, (refl, (refl, (refl, (refl, (refl, tt)))))))))))))))

@@ -1,0 +1,44 @@
+-- The cases of document 01 that are marked P, in its order: one list of statements, and that all of them hold.
+use Prim.Native.Nat.{ℕ, _+_}
+use mathlib.Core.Path.{_≡_}
+use mathlib.Core.List.{List, [], _∷_}
+use lib.ListN.{getD, set}
+use Rattle.pulse.specs.declared.Class.the-variants.{Short, Medium, Long, Noise}
+use Rattle.pulse.specs.Pulse.{fixed, classOf, classes}
+use Rattle.byte.specs.declared.ByteRead.the-variants.{Good}
+use Rattle.byte.specs.Byte.{parityBit, byteClasses, bytePulses, byteAt}
+
+abbrev pub All : List (Type 0) → Type 0
+All [] = Unit {0}
+All (case ∷ rest) = case × All rest
+
+-- pulses i and i + 1 of a strip turned round
+abbrev pub swapped : ℕ → List ℕ → List ℕ
+swapped i strip = set (set strip i (getD strip (i + 1) 0)) (i + 1) (getD strip i 0)
+
+-- bits 0 and 1 of the byte at a place turned round, four pulses
+abbrev pub turned : ℕ → List ℕ → List ℕ
+turned p strip = swapped (p + 4) (swapped (p + 2) strip)
+
+abbrev pub cases : List (Type 0)
+cases =
+    (classOf fixed 199 ≡ Noise)
+    ∷ (classOf fixed 200 ≡ Short)
+    ∷ (classOf fixed 439 ≡ Short)
+    ∷ (classOf fixed 440 ≡ Medium)
+    ∷ (classOf fixed 607 ≡ Medium)
+    ∷ (classOf fixed 608 ≡ Long)
+    ∷ (classOf fixed 959 ≡ Long)
+    ∷ (classOf fixed 960 ≡ Noise)
+    -- $89 is LM MS SM SM MS SM SM SM MS SM
+    ∷ (byteClasses 0x89
+    ≡ Long ∷ Medium ∷ Medium ∷ Short ∷ Short ∷ Medium ∷ Short ∷ Medium ∷ Medium ∷ Short
+    ∷ Short ∷ Medium ∷ Short ∷ Medium ∷ Short ∷ Medium ∷ Medium ∷ Short ∷ Short ∷ Medium ∷ [])
+    ∷ (parityBit 0x00 ≡ 1)
+    ∷ (parityBit 0x01 ≡ 0)
+    ∷ (parityBit 0xff ≡ 1)
+    ∷ (parityBit 0x22 ≡ 1)
+    ∷ (parityBit 0x07 ≡ 0)
+    -- $00 with bits 0 and 1 turned round is a good $03
+    ∷ (byteAt (classes fixed (turned 0 (bytePulses 0x00))) 0 ≡ Good 0x03)
+    ∷ []

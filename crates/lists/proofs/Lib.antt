@@ -1,0 +1,4 @@
+pub mod BoolLaws
+pub mod PlaceLaws
+pub mod BufferLaws
+pub mod Table

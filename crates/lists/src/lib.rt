@@ -1,0 +1,1 @@
+// Definitions and laws on lists and numbers that every layer uses (specs/, proofs/). No code.

@@ -1,0 +1,2 @@
+pub mod PulseLaws
+pub mod UnitLaws

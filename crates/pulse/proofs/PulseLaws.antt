@@ -1,0 +1,80 @@
+-- Laws of pulses and their classes.
+use Prim.Native.Nat.{ℕ, zero, suc, _<_}
+use native.Mathlib.Omega.{arith}
+use mathlib.Core.Path.{_≡_, refl, sym, ap, ap₂, _∙_}
+use mathlib.Core.Bool.{Bool, true, false, cond, not, _&&_}
+use mathlib.Core.List.{List, [], _∷_}
+use borrow.Author.Tests.{eqb-true}
+use lib.Dec.{ltb}
+use lib.ListN.{length, getD}
+use Rattle.pulse.specs.declared.Thresholds.{Thresholds}
+use Rattle.pulse.specs.declared.Class.{Class}
+use Rattle.pulse.specs.declared.Class.the-variants.{Short, Medium, Long, Noise}
+use Rattle.pulse.specs.Pulse.{fixed, classOf, classes, code, same, writtenAs, pulses}
+use Rattle.pulse.specs.Figures.{Written, ntsc, pal}
+
+-- ---- classes
+
+-- the class at a place of a strip is that of the pulse there
+pub class-at : (t : Thresholds) (strip : List ℕ) (i : ℕ) → i < length strip → getD (classes t strip) i Noise ≡ classOf t (getD strip i 0)
+class-at t [] i h = absurd (omega arith)
+class-at t (x ∷ strip) zero h = refl
+class-at t (x ∷ strip) (suc i) h = class-at t strip i (omega arith)
+
+-- ---- same
+
+classed : ℕ → Class
+classed zero = Short
+classed (suc zero) = Medium
+classed (suc (suc zero)) = Long
+classed (suc (suc (suc n))) = Noise
+
+classed-code : (c : Class) → classed (code c) ≡ c
+unfolding classed
+classed-code Short = refl
+classed-code Medium = refl
+classed-code Long = refl
+classed-code Noise = refl
+
+pub same-eq : (a b : Class) → same a b ≡ true → a ≡ b
+unfolding same
+same-eq a b e = sym (classed-code a) ∙ ap classed (eqb-true (code a) (code b) e) ∙ classed-code b
+
+-- ---- One class by its own tests
+
+pub record Tests (s m l n : Bool) (c : Class) : Type 0 where
+  pub short : (not s && m) ≡ same c Short
+  pub medium : (not s && not m && l) ≡ same c Medium
+  pub long : (not s && not m && not l && n) ≡ same c Long
+
+tests : (s m l n : Bool) → Tests s m l n (cond s Noise (cond m Short (cond l Medium (cond n Long Noise))))
+unfolding same
+tests true m l n = record { short = refl; medium = refl; long = refl }
+tests false true l n = record { short = refl; medium = refl; long = refl }
+tests false false true n = record { short = refl; medium = refl; long = refl }
+tests false false false true = record { short = refl; medium = refl; long = refl }
+tests false false false false = record { short = refl; medium = refl; long = refl }
+
+pub class-tests : (t : Thresholds) (x : ℕ) → Tests (ltb x (t .short)) (ltb x (t .medium)) (ltb x (t .long)) (ltb x (t .noise)) (classOf t x)
+unfolding classOf
+class-tests t x = tests (ltb x (t .short)) (ltb x (t .medium)) (ltb x (t .long)) (ltb x (t .noise))
+
+-- ---- Written figures
+
+class-written : (c : Class) → classOf fixed (writtenAs c) ≡ c
+unfolding classOf
+class-written Short = refl
+class-written Medium = refl
+class-written Long = refl
+class-written Noise = refl
+
+-- every pulse has the class that it was written in
+pub classes-pulses : (cs : List Class) → classes fixed (pulses cs) ≡ cs
+classes-pulses [] = refl
+classes-pulses (c ∷ cs) = ap₂ (λ (x : Class) (xs : List Class). x ∷ xs) (class-written c) (classes-pulses cs)
+
+pub written-ntsc : Written ntsc
+written-ntsc = record { short = refl; medium = refl; long = refl }
+
+pub written-pal : Written pal
+written-pal = record { short = refl; medium = refl; long = refl }

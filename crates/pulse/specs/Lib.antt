@@ -1,0 +1,3 @@
+pub mod Pulse
+pub mod Figures
+pub mod Units
