@@ -10,7 +10,7 @@ use mathlib.Core.Option.{Option, none, some}
 use borrow.Author.Tests.{lt-ltb}
 use lib.Pow.{pow-add}
 use Rattle.lists.specs.Places.{firstFrom, tabulate}
-use Rattle.lists.proofs.PlaceLaws.{orElse, first-snoc, some-below}
+use Rattle.lists.proofs.PlaceLaws.{orElse, first-snoc, some-first}
 use Rattle.pulse.specs.declared.Class.{Class}
 use Rattle.byte.specs.declared.Pair.{Pair}
 use Rattle.byte.specs.declared.Decoder.{Decoder}
@@ -64,7 +64,7 @@ pub decoded-next : (ys : List Class) (i : ℕ) → i < 10 → fed (decoded ys i)
 unfolding decoded
 decoded-next ys i h =
     ap₂ (λ x y. record { wrong = x; bits = y })
-    (wrong-next (firstFrom (wrongPair ys) i 0) i (nthPair ys i) (λ k e. omega (arith, some-below (wrongPair ys) i 0 k e))
+    (wrong-next (firstFrom (wrongPair ys) i 0) i (nthPair ys i) (λ k e. omega (arith, some-first (wrongPair ys) i 0 k e .high))
     ∙ ap orTen (sym (first-next ys i)))
     (shifted i (valueOf (tabulate (nthBit ys) i 0)) (nthBit ys i) h
     ∙ ap (λ v. 2 ^ (10 - suc i) * v / 2) (sym (value-next (nthBit ys) i 0 ∙ ap (λ j. valueOf (tabulate (nthBit ys) i 0) + nthBit ys j * 2 ^ i) (zero-add i))))
@@ -91,7 +91,7 @@ pub decoded-closed : (ys : List Class) → closed (decoded ys 10) ≡ readByte y
 unfolding decoded readByte
 decoded-closed ys =
     closed-checked (firstFrom (wrongPair ys) 10 0) (valueOf (tabulate (nthBit ys) 8 1)) (nthBit ys 9) _
-    (λ k e. some-below (wrongPair ys) 10 0 k e)
+    (λ k e. some-first (wrongPair ys) 10 0 k e .high)
     (value-lt (nthBit ys) (λ j. bit-lt (nthPair ys j)) 8 1)
     (decoded-bits ys)
 

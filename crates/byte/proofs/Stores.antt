@@ -3,15 +3,16 @@ use Prim.Native.Nat.{ℕ, zero, suc, _+_, _-_, _*_, _/_, _%_, _≤_, _<_}
 use native.Mathlib.Omega.{arith}
 use mathlib.Core.Path.{_≡_, refl, sym, ap, _∙_}
 use mathlib.Core.Bool.{true, false}
-use mathlib.Core.List.{List, [], _∷_, _++_, map-append}
+use mathlib.Core.List.{List, [], _∷_, _++_}
 use borrow.Author.Tests.{le-leb, lt-leb}
 use lib.ListN.{length, length-map}
 use lib.Seq.{sets, length-sets}
 use Rattle.lists.specs.Buffer.{hasRoom, putAt}
-use Rattle.lists.proofs.BufferLaws.{sets-append, put-room, put-none}
+use Rattle.lists.proofs.BufferLaws.{put-room, put-none}
 use Rattle.pulse.specs.declared.Class.{Class}
 use Rattle.pulse.specs.declared.Class.the-variants.{Short, Medium, Long}
 use Rattle.pulse.specs.Pulse.{writtenAs, pulses}
+use Rattle.pulse.proofs.PulseLaws.{sets-pulses}
 use Rattle.byte.specs.Byte.{bits, parityBit, coded, byteClasses, bytePulses}
 use Rattle.byte.proofs.CodingLaws.{coded-append, length-coded, length-bits, length-byte}
 
@@ -25,14 +26,6 @@ pub coded-one : (d : ℕ) → (d ≡ 0 → ⊥) → Medium ∷ Short ∷ [] ≡ 
 unfolding coded
 coded-one zero h = absurd (h refl)
 coded-one (suc d) h = refl
-
--- ---- Two stretches of pulses, one after the other
-
-pub sets-pulses : (out : List ℕ) (at n : ℕ) (xs ys : List Class) → length xs ≡ n
-    → sets (sets out at (pulses xs)) (at + n) (pulses ys) ≡ sets out at (pulses (xs ++ ys))
-sets-pulses out at n xs ys e =
-    ap (λ k. sets (sets out at (pulses xs)) (at + k) (pulses ys)) (sym (length-map xs writtenAs ∙ e))
-    ∙ sym (sets-append (pulses xs) (pulses ys) out at) ∙ ap (sets out at) (sym (map-append writtenAs xs ys))
 
 -- ---- The eight bits: with i of them put, the rest put after them gives the whole
 

@@ -16,10 +16,19 @@ pub or-true : (a b : Bool) → (a || b) ≡ true → (a ≡ true) ⊎ (b ≡ tru
 or-true true b e = inl refl
 or-true false b e = inr e
 
+pub or-false : (a b : Bool) → (a || b) ≡ false → (a ≡ false) × (b ≡ false)
+or-false true b e = absurd (let z : _≡_ {A = ℕ} 0 1 = cc in omega arith)
+or-false false b e = (refl, e)
+
 -- an answer that is not the second is the first
 pub cond-first : {A : Type 0} (t : Bool) (x y z : A) → (y ≡ z → ⊥) → cond t x y ≡ z → (t ≡ true) × (x ≡ z)
 cond-first true x y z h e = (refl, e)
 cond-first false x y z h e = absurd (h e)
+
+-- an answer that is not the first is the second
+pub cond-second : {A : Type 0} (t : Bool) (x y z : A) → (x ≡ z → ⊥) → cond t x y ≡ z → (t ≡ false) × (y ≡ z)
+cond-second true x y z h e = absurd (h e)
+cond-second false x y z h e = (refl, e)
 
 pub leb-not : (a b : ℕ) → leb a b ≡ not (ltb b a)
 leb-not a b = elim (decLe a b) [ yes h ↦ rw (le-leb a b h, le-ltb b a h) | no h ↦ rw (lt-leb a b (omega arith), lt-ltb b a (omega arith)) ]

@@ -1,4 +1,6 @@
 pub mod BoolLaws
 pub mod PlaceLaws
+pub mod PartLaws
 pub mod BufferLaws
+pub mod LoopLaws
 pub mod Table

@@ -3,12 +3,12 @@ use Prim.Native.Nat.{ℕ, zero, suc, _+_, _≤_, _<_}
 use native.Mathlib.Omega.{arith}
 use native.Mathlib.Nat.{add-zero}
 use native.Mathlib.Decide.{ℕ-discrete}
-use mathlib.Core.Path.{_≡_, refl, ap}
+use mathlib.Core.Path.{_≡_, refl, ap, _∙_}
 use mathlib.Core.Bool.{Bool, true, false, cond}
-use mathlib.Core.List.{[], _∷_, _++_}
+use mathlib.Core.List.{List, [], _∷_, _++_}
 use mathlib.Core.Option.{Option, none, some}
-use lib.ListN.{length}
-use Rattle.lists.specs.Places.{firstFrom, tabulate}
+use lib.ListN.{length, getD}
+use Rattle.lists.specs.Places.{firstFrom, First, tabulate}
 
 -- ---- firstFrom
 
@@ -23,15 +23,40 @@ none-first f (suc count) at e i a b = go (λ e′. none-first f count (suc at) e
     go r false t (yes d) = rw (← d) t
     go r false t (no d) = r (rw t at e) (omega arith) (omega arith)
 
--- what is found comes before the end
-pub some-below : (f : ℕ → Bool) (count at p : ℕ) → firstFrom f count at ≡ some p → p < at + count
+-- where none passes, none is found
+pub first-none : (f : ℕ → Bool) (count at : ℕ) → ((i : ℕ) → at ≤ i → i < at + count → f i ≡ false) → firstFrom f count at ≡ none
 unfolding firstFrom
-some-below f zero at p e = absurd (let z : _≡_ {A = ℕ} 0 1 = cc in omega arith)
-some-below f (suc count) at p e = go (some-below f count (suc at) p) (f at) refl
+first-none f zero at h = refl
+first-none f (suc count) at h = rw (h at (omega arith) (omega arith)) (first-none f count (suc at) (λ i a b. h i (omega arith) (omega arith)))
+
+-- what is found is the smallest that passes
+pub some-first : (f : ℕ → Bool) (count at p : ℕ) → firstFrom f count at ≡ some p → First f count at p
+unfolding firstFrom
+some-first f zero at p e = absurd (let z : _≡_ {A = ℕ} 0 1 = cc in omega arith)
+some-first f (suc count) at p e = go (some-first f count (suc at) p) (f at) refl
   where
-    go : (firstFrom f count (suc at) ≡ some p → p < suc at + count) → (t : Bool) → f at ≡ t → p < at + suc count
-    go r true t = let z : at ≡ p = (let e′ = rw t at e in cc) in omega arith
-    go r false t = omega (arith, r (rw t at e))
+    go : (firstFrom f count (suc at) ≡ some p → First f count (suc at) p) → (t : Bool) → f at ≡ t → First f (suc count) at p
+    go later true t =
+        let z : at ≡ p = (let e′ = rw t at e in cc) in
+        record { low = omega arith; high = omega arith; passes = rw (← z) t; least = λ i a b. absurd (omega arith) }
+    go later false t =
+        let r = later (rw t at e) in
+        record {
+          low = omega arith;
+          high = omega arith;
+          passes = r .passes;
+          least = λ i a b. elim (ℕ-discrete at i) [ yes d ↦ rw (← d) t | no d ↦ r .least i (omega arith) b ];
+        }
+
+-- the smallest that passes is found
+pub first-some : {f : ℕ → Bool} {count at p : ℕ} → First f count at p → firstFrom f count at ≡ some p
+unfolding firstFrom
+first-some {count = zero} r = absurd (omega arith)
+first-some {f} {count = suc count} {at} {p} r = elim (ℕ-discrete at p) [
+  | yes e ↦ rw (e, r .passes)
+  | no ne ↦ rw (r .least at (omega arith) (omega arith))
+      (first-some {count = count} (record { low = omega arith; high = omega arith; passes = r .passes; least = λ i a b. r .least i (omega arith) b }))
+]
 
 -- what was found among the first numbers, else what is found after them
 abbrev pub orElse : Option ℕ → Option ℕ → Option ℕ
@@ -64,3 +89,18 @@ pub length-tabulate : (f : ℕ → ℕ) (count at : ℕ) → length (tabulate f 
 unfolding tabulate
 length-tabulate f zero at = refl
 length-tabulate f (suc count) at = ap suc (length-tabulate f count (suc at))
+
+-- a list by its places
+pub tabulate-is : (f : ℕ → ℕ) (xs : List ℕ) (at : ℕ) → ((i : ℕ) → i < length xs → f (at + i) ≡ getD xs i 0) → tabulate f (length xs) at ≡ xs
+unfolding tabulate
+tabulate-is f [] at h = refl
+tabulate-is f (x ∷ xs) at h =
+    let e : f at ≡ x = rw add-zero at (h 0 (omega arith)) in
+    let r = tabulate-is f xs (suc at) (λ i l. ap f (let z : suc at + i ≡ at + suc i = omega arith in z) ∙ h (suc i) (omega arith)) in
+    cc
+
+pub getD-tabulate : (f : ℕ → ℕ) (count at i : ℕ) → i < count → getD (tabulate f count at) i 0 ≡ f (at + i)
+unfolding tabulate
+getD-tabulate f zero at i h = absurd (omega arith)
+getD-tabulate f (suc count) at zero h = rw add-zero
+getD-tabulate f (suc count) at (suc i) h = getD-tabulate f count (suc at) i (omega arith) ∙ ap f (let z : suc at + i ≡ at + suc i = omega arith in z)

@@ -1,12 +1,14 @@
 -- Laws of pulses and their classes.
-use Prim.Native.Nat.{ℕ, zero, suc, _<_}
+use Prim.Native.Nat.{ℕ, zero, suc, _+_, _<_}
 use native.Mathlib.Omega.{arith}
 use mathlib.Core.Path.{_≡_, refl, sym, ap, ap₂, _∙_}
 use mathlib.Core.Bool.{Bool, true, false, cond, not, _&&_}
-use mathlib.Core.List.{List, [], _∷_}
+use mathlib.Core.List.{List, [], _∷_, _++_, map-append}
 use borrow.Author.Tests.{eqb-true}
 use lib.Dec.{ltb}
-use lib.ListN.{length, getD}
+use lib.ListN.{length, getD, length-map}
+use lib.Seq.{sets}
+use Rattle.lists.proofs.BufferLaws.{sets-append}
 use Rattle.pulse.specs.declared.Thresholds.{Thresholds}
 use Rattle.pulse.specs.declared.Class.{Class}
 use Rattle.pulse.specs.declared.Class.the-variants.{Short, Medium, Long, Noise}
@@ -72,6 +74,13 @@ class-written Noise = refl
 pub classes-pulses : (cs : List Class) → classes fixed (pulses cs) ≡ cs
 classes-pulses [] = refl
 classes-pulses (c ∷ cs) = ap₂ (λ (x : Class) (xs : List Class). x ∷ xs) (class-written c) (classes-pulses cs)
+
+-- two stretches of pulses stored one after the other
+pub sets-pulses : (out : List ℕ) (at n : ℕ) (xs ys : List Class) → length xs ≡ n
+    → sets (sets out at (pulses xs)) (at + n) (pulses ys) ≡ sets out at (pulses (xs ++ ys))
+sets-pulses out at n xs ys e =
+    ap (λ k. sets (sets out at (pulses xs)) (at + k) (pulses ys)) (sym (length-map xs writtenAs ∙ e))
+    ∙ sym (sets-append (pulses xs) (pulses ys) out at) ∙ ap (sets out at) (sym (map-append writtenAs xs ys))
 
 pub written-ntsc : Written ntsc
 written-ntsc = record { short = refl; medium = refl; long = refl }

@@ -1,0 +1,127 @@
+-- What the reader answers and leaves in the buffer, by what its parts found.
+use Prim.Native.Nat.{ℕ, _+_, _*_, _≤_, _<_}
+use native.Mathlib.Nat.{zero-add}
+use native.Mathlib.Omega.{arith}
+use mathlib.Core.Path.{_≡_, refl, sym, ap, _∙_}
+use mathlib.Core.Bool.{Bool, true, false}
+use mathlib.Core.List.{List}
+use mathlib.Core.Option.{Option, none, some}
+use borrow.Author.Tests.{lt-ltb, le-ltb}
+use lib.ListN.{length, length-map}
+use lib.Seq.{sets}
+use Rattle.lists.specs.Places.{firstFrom}
+use Rattle.lists.specs.Buffer.{putAt}
+use Rattle.lists.proofs.PlaceLaws.{length-tabulate, some-first}
+use Rattle.lists.proofs.BufferLaws.{put-room}
+use Rattle.refusal.specs.declared.Reason.{Reason}
+use Rattle.refusal.specs.declared.Reason.the-variants.{WrongSize, NoRoom, NoStart, CutShort, WrongCountdown, LostByte, WrongChecksum}
+use Rattle.refusal.specs.Refusal.{Outcome, accepted, refuse, refusalAt, mapped, puts}
+use Rattle.refusal.proofs.OutcomeLaws.{mapped-refused, told-refused, puts-refused}
+use Rattle.pulse.specs.declared.Thresholds.{Thresholds}
+use Rattle.pulse.specs.declared.Class.{Class}
+use Rattle.pulse.specs.Pulse.{classOf, classes}
+use Rattle.block.specs.declared.BlockAnswer.{BlockAnswer}
+use Rattle.block.specs.declared.BlockAnswer.the-variants.{Accepted, Refused}
+use Rattle.block.specs.declared.Check.{Check}
+use Rattle.block.specs.declared.Check.the-variants.{Sound, LostAt, WrongSum}
+use Rattle.block.specs.declared.Found.{Found}
+use Rattle.block.specs.declared.Found.the-variants.{At, Nothing}
+use Rattle.block.specs.Block.{wrongSize}
+use Rattle.block.specs.Reading.{isStart, startOf, copyTwo, endOf, isMiscounted, isLost, valueAt, valuesAt, sumHolds, Block, extentOf, payloadOf, readCopies, readAt, readFound, readFrom, readBlock, blockAnswer}
+use Rattle.block.specs.Checks.{foundAt, checkOf}
+
+-- the answer r and the buffer afterwards are those of an outcome
+abbrev pub Met : Outcome Block → List ℕ → BlockAnswer → List ℕ → Type 0
+Met o out r out′ = (blockAnswer r ≡ mapped extentOf o) × (out′ ≡ putAt out 0 (puts (mapped payloadOf o)))
+
+pub met-refused : (o : Outcome Block) (out : List ℕ) (reason : Reason) {place : ℕ} {r : BlockAnswer} → o ≡ refuse reason place → r ≡ Refused (refusalAt reason place)
+    → Met o out r out
+met-refused o out reason e q = (ap blockAnswer q ∙ told-refused reason e extentOf refl, puts-refused reason out (mapped-refused reason e payloadOf))
+
+-- ---- What rules 4 and 5 found
+
+check-lost : (o : Option ℕ) (t : Bool) {i : ℕ} → checkOf o t ≡ LostAt i → o ≡ some i
+check-lost none true e = absurd (let z : _≡_ {A = ℕ} 0 1 = cc in omega arith)
+check-lost none false e = absurd (let z : _≡_ {A = ℕ} 0 1 = cc in omega arith)
+check-lost (some j) t e = cc
+
+check-wrong : (o : Option ℕ) (t : Bool) → checkOf o t ≡ WrongSum → (o ≡ none) × (t ≡ false)
+check-wrong none true e = absurd (let z : _≡_ {A = ℕ} 0 1 = cc in omega arith)
+check-wrong none false e = (refl, refl)
+check-wrong (some j) t e = absurd (let z : _≡_ {A = ℕ} 0 1 = cc in omega arith)
+
+check-sound : (o : Option ℕ) (t : Bool) → checkOf o t ≡ Sound → (o ≡ none) × (t ≡ true)
+check-sound none true e = (refl, refl)
+check-sound none false e = absurd (let z : _≡_ {A = ℕ} 0 1 = cc in omega arith)
+check-sound (some j) t e = absurd (let z : _≡_ {A = ℕ} 0 1 = cc in omega arith)
+
+-- ---- From a start on
+
+module _ (t : Thresholds) (strip : List ℕ) (n p : ℕ) (out : List ℕ) where
+  abbrev cs : List Class
+  cs = classes t strip
+
+  abbrev q : ℕ
+  q = copyTwo n p
+
+  pub cut-short : {r : BlockAnswer} → length strip < endOf n p → r ≡ Refused (refusalAt CutShort p) → Met (readAt cs n p) out r out
+  unfolding readAt
+  cut-short h = met-refused (readAt cs n p) out CutShort (rw (length-map strip (classOf t), lt-ltb (length strip) (endOf n p) h))
+
+  module _ (long : endOf n p ≤ length strip) {f : Found} (e : foundAt f ≡ firstFrom (isMiscounted cs p q) 9 0) where
+    pub miscounted : {i : ℕ} {r : BlockAnswer} → f ≡ At i → r ≡ Refused (refusalAt WrongCountdown i) → Met (readAt cs n p) out r out
+    unfolding readAt readCopies
+    miscounted g = met-refused (readAt cs n p) out WrongCountdown (rw (length-map strip (classOf t), le-ltb (length strip) (endOf n p) long, ← e, g))
+
+    module _ (g : f ≡ Nothing) {c : Check} (h : c ≡ checkOf (firstFrom (isLost cs p q) (n + 1) 0) (sumHolds cs p q n)) where
+      pub lost-byte : {i : ℕ} {r : BlockAnswer} → c ≡ LostAt i → r ≡ Refused (refusalAt LostByte i) → Met (readAt cs n p) out r out
+      unfolding readAt readCopies
+      lost-byte k = met-refused (readAt cs n p) out LostByte
+          (rw (length-map strip (classOf t), le-ltb (length strip) (endOf n p) long, ← e, g, check-lost (firstFrom (isLost cs p q) (n + 1) 0) (sumHolds cs p q n) (sym h ∙ k)))
+
+      pub wrong-sum : {r : BlockAnswer} → c ≡ WrongSum → r ≡ Refused (refusalAt WrongChecksum n) → Met (readAt cs n p) out r out
+      unfolding readAt readCopies
+      wrong-sum k =
+          let w = check-wrong (firstFrom (isLost cs p q) (n + 1) 0) (sumHolds cs p q n) (sym h ∙ k) in
+          met-refused (readAt cs n p) out WrongChecksum (rw (length-map strip (classOf t), le-ltb (length strip) (endOf n p) long, ← e, g, w .0, w .1))
+
+      pub sound : {out′ : List ℕ} → n ≤ length out → c ≡ Sound → out′ ≡ sets out 0 (valuesAt cs p q n)
+          → Met (readAt cs n p) out (Accepted (record { n = n; start = p; end = endOf n p })) out′
+      unfolding readAt readCopies
+      sound room k s =
+          let w = check-sound (firstFrom (isLost cs p q) (n + 1) 0) (sumHolds cs p q n) (sym h ∙ k) in
+          let l : 0 + length (valuesAt cs p q n) ≡ n = zero-add _ ∙ length-tabulate (valueAt cs p q) n 0 in
+          let a : readAt cs n p ≡ accepted (record { extent = record { n = n; start = p; end = endOf n p }; payload = valuesAt cs p q n }) =
+          rw (length-map strip (classOf t), le-ltb (length strip) (endOf n p) long, ← e, g, w .0, w .1)
+          in
+          (rw a, rw a (s ∙ put-room out 0 (valuesAt cs p q n) (rw l room)))
+
+-- ---- From `from` on
+
+pub start-within : (t : Thresholds) (strip : List ℕ) (from : ℕ) {p : ℕ} → startOf (classes t strip) from ≡ some p → p ≤ length strip
+unfolding startOf
+start-within t strip from {p} e =
+    let r = some-first (isStart (classes t strip) from) (length (classes t strip)) 0 p e in
+    omega (arith, r .high, length-map strip (classOf t))
+
+module _ (cs : List Class) (from n : ℕ) (out : List ℕ) where
+  abbrev outcome : Outcome Block
+  outcome = readBlock cs (length out) from n
+
+  pub wrong-size : {r : BlockAnswer} → wrongSize n ≡ true → r ≡ Refused (refusalAt WrongSize 0) → Met outcome out r out
+  unfolding readBlock
+  wrong-size t = met-refused outcome out WrongSize (rw t)
+
+  module _ (size : wrongSize n ≡ false) where
+    pub no-room : {r : BlockAnswer} → length out < n → r ≡ Refused (refusalAt NoRoom 0) → Met outcome out r out
+    unfolding readBlock
+    no-room h = met-refused outcome out NoRoom (rw (size, lt-ltb (length out) n h))
+
+    module _ (room : n ≤ length out) {f : Found} (e : foundAt f ≡ startOf cs from) where
+      pub no-start : {r : BlockAnswer} → f ≡ Nothing → r ≡ Refused (refusalAt NoStart 0) → Met outcome out r out
+      unfolding readBlock readFrom readFound
+      no-start g = met-refused outcome out NoStart (rw (size, le-ltb (length out) n room, ← e, g))
+
+      pub started : {p : ℕ} (r : BlockAnswer) {out′ : List ℕ} → f ≡ At p → Met (readAt cs n p) out r out′ → Met outcome out r out′
+      unfolding readBlock readFrom readFound
+      started r g m = rw (size, le-ltb (length out) n room, ← e, g) m

@@ -1,0 +1,168 @@
+-- Laws of blocks as written: how many pulses and bytes there are, and where they stand.
+use Prim.Native.Nat.{ℕ, zero, suc, _+_, _-_, _*_, _≤_, _<_}
+use native.Mathlib.Nat.{zero-add}
+use native.Mathlib.Decide.{decLt}
+use native.Mathlib.Omega.{arith}
+use mathlib.Core.Path.{_≡_, refl, sym, ap, _∙_}
+use mathlib.Core.Bool.{false}
+use mathlib.Core.List.{List, [], _∷_, _++_, append-assoc, append-nil}
+use lib.Bits.{bitXor, xor-lt}
+use borrow.Author.Tests.{ltb-false, eqb-false}
+use lib.Dec.{eqb, ltb, lit<}
+use lib.ListN.{length, getD, replicate, length-append, length-replicate, length-map, List·getD-append, List·getD-eq-default}
+use lib.Seq.{take-at, getD-append-add}
+use Rattle.lists.specs.Places.{part, Below}
+use Rattle.lists.proofs.BoolLaws.{or-false}
+use Rattle.lists.proofs.PlaceLaws.{length-tabulate, getD-tabulate}
+use Rattle.lists.proofs.PartLaws.{part-past}
+use Rattle.pulse.specs.declared.Class.{Class}
+use Rattle.pulse.specs.declared.Class.the-variants.{Short}
+use Rattle.pulse.specs.Pulse.{writtenAs}
+use Rattle.byte.specs.Byte.{byteClasses, twenty}
+use Rattle.byte.proofs.CodingLaws.{length-byte}
+use Rattle.block.specs.Block.{xorFrom, checksum, firstByte, countdown, copyBytes, bytesClasses, trailer, copyClasses, blockClasses, blockPulses, wrongSize, wrongLeader}
+use Rattle.block.specs.Reading.{copyTwo}
+use Rattle.block.specs.Damage.{oneAt, twoAt}
+
+-- ---- bytesClasses
+
+pub bytes-append : (xs ys : List ℕ) → bytesClasses (xs ++ ys) ≡ bytesClasses xs ++ bytesClasses ys
+unfolding bytesClasses
+bytes-append [] ys = refl
+bytes-append (x ∷ xs) ys = rw append-assoc (ap (λ (cs : List Class). byteClasses x ++ cs) (bytes-append xs ys))
+
+pub length-bytes : (bs : List ℕ) → length (bytesClasses bs) ≡ 20 * length bs
+unfolding bytesClasses
+length-bytes [] = refl
+length-bytes (b ∷ bs) = simp (length-append, length-byte, length-bytes bs) (omega arith)
+
+-- the twenty pulses of byte i
+pub bytes-at : (bs : List ℕ) (rest : List Class) (i : ℕ) → i < length bs → twenty (bytesClasses bs ++ rest) (20 * i) ≡ byteClasses (getD bs i 0)
+unfolding bytesClasses
+bytes-at [] rest i h = absurd (omega arith)
+bytes-at (b ∷ bs) rest zero h = rw append-assoc (take-at (byteClasses b) (bytesClasses bs ++ rest) 20 (length-byte b))
+bytes-at (b ∷ bs) rest (suc i) h =
+    let e : 20 * suc i ≡ 20 + 20 * i = omega arith in
+    rw (append-assoc, e) (part-past (byteClasses b) (bytesClasses bs ++ rest) 20 (20 * i) 20 (length-byte b) ∙ bytes-at bs rest i (omega arith))
+
+-- ---- checksum
+
+xorFrom-lt : (x : ℕ) (bs : List ℕ) → x < 256 → Below 256 bs → xorFrom x bs < 256
+unfolding xorFrom
+xorFrom-lt x [] h below = h
+xorFrom-lt x (b ∷ bs) h below = xorFrom-lt (bitXor x b) bs (xor-lt 8 x b h (below 0)) (λ i. below (suc i))
+
+pub checksum-lt : (payload : List ℕ) → Below 256 payload → checksum payload < 256
+checksum-lt payload below = xorFrom-lt 0 payload (lit< tt) below
+
+-- ---- countdown
+
+pub length-countdown : (copy : ℕ) → length (countdown copy) ≡ 9
+unfolding countdown
+length-countdown copy = length-tabulate (λ i. firstByte copy - i) 9 0
+
+pub countdown-at : (copy i : ℕ) → i < 9 → getD (countdown copy) i 0 ≡ firstByte copy - i
+unfolding countdown
+countdown-at copy i h = getD-tabulate (λ j. firstByte copy - j) 9 0 i h ∙ rw zero-add
+
+-- ---- copyBytes
+
+module _ (copy : ℕ) (payload : List ℕ) where
+  pub length-copyBytes : length (copyBytes copy payload) ≡ length payload + 10
+  unfolding copyBytes
+  length-copyBytes = simp (length-append, length-countdown) (omega arith)
+
+  -- the countdown
+  pub copy-countdown : (i : ℕ) → i < 9 → getD (copyBytes copy payload) i 0 ≡ firstByte copy - i
+  unfolding copyBytes
+  copy-countdown i h = List·getD-append (countdown copy) (payload ++ (checksum payload ∷ [])) 0 i (rw length-countdown h) ∙ countdown-at copy i h
+
+  -- after it the payload and the checksum
+  pub copy-value : (i : ℕ) → getD (copyBytes copy payload) (9 + i) 0 ≡ getD (payload ++ (checksum payload ∷ [])) i 0
+  unfolding copyBytes
+  copy-value i = rw (← (length-countdown copy)) (getD-append-add (countdown copy) (payload ++ (checksum payload ∷ [])) i 0)
+
+-- ---- Every byte of a copy is a byte
+
+below-append : (xs ys : List ℕ) → Below 256 xs → Below 256 ys → Below 256 (xs ++ ys)
+below-append [] ys b c i = c i
+below-append (x ∷ xs) ys b c zero = b zero
+below-append (x ∷ xs) ys b c (suc i) = below-append xs ys (λ j. b (suc j)) c i
+
+below-one : (x : ℕ) → x < 256 → Below 256 (x ∷ [])
+below-one x h zero = h
+below-one x h (suc i) = lit< tt
+
+first-lt : (copy : ℕ) → firstByte copy < 256
+first-lt zero = lit< tt
+first-lt (suc copy) = lit< tt
+
+below-countdown : (copy : ℕ) → Below 256 (countdown copy)
+below-countdown copy i = elim (decLt i 9) [
+  | yes h ↦ rw (countdown-at copy i h) (omega (arith, first-lt copy))
+  | no h ↦ rw (List·getD-eq-default (countdown copy) 0 {n = i} (rw length-countdown (omega arith))) (lit< tt)
+]
+
+pub below-copy : (copy : ℕ) (payload : List ℕ) → Below 256 payload → Below 256 (copyBytes copy payload)
+unfolding copyBytes
+below-copy copy payload below =
+    below-append (countdown copy) (payload ++ (checksum payload ∷ [])) (below-countdown copy)
+    (below-append payload (checksum payload ∷ []) below (below-one (checksum payload) (checksum-lt payload below)))
+
+-- ---- copyClasses
+
+module _ (copy : ℕ) (payload : List ℕ) where
+  pub length-copy : length (copyClasses copy payload) ≡ 20 * (length payload + 10) + 61
+  unfolding copyClasses trailer
+  length-copy = simp (length-append, length-bytes, length-copyBytes) (omega arith)
+
+  -- byte place i of a copy
+  pub copy-at : (rest : List Class) (i : ℕ) → i < length payload + 10
+      → twenty (copyClasses copy payload ++ rest) (20 * i) ≡ byteClasses (getD (copyBytes copy payload) i 0)
+  unfolding copyClasses
+  copy-at rest i h = rw append-assoc (bytes-at (copyBytes copy payload) (trailer ++ rest) i (rw (length-copyBytes copy payload) h))
+
+-- ---- blockClasses
+
+module _ (k : ℕ) (payload : List ℕ) where
+  pub length-block : length (blockClasses k payload) ≡ k + 40 * (length payload + 10) + 122
+  unfolding blockClasses
+  length-block = simp (length-append, length-copy, length-replicate) (omega arith)
+
+  pub length-blockPulses : length (blockPulses k payload) ≡ k + 40 * (length payload + 10) + 122
+  length-blockPulses = length-map (blockClasses k payload) writtenAs ∙ length-block
+
+  pub leader-at : part (blockClasses k payload) 0 k ≡ replicate k Short
+  unfolding blockClasses
+  leader-at = take-at (replicate k Short) _ k (length-replicate k Short)
+
+  -- byte place i of copy one, and of copy two
+  pub one-at : (i : ℕ) → i < length payload + 10 → oneAt k i (blockClasses k payload) ≡ byteClasses (getD (copyBytes 0 payload) i 0)
+  unfolding blockClasses
+  one-at i h =
+      part-past (replicate k Short) (copyClasses 0 payload ++ copyClasses 1 payload) k (20 * i) 20 (length-replicate k Short)
+      ∙ copy-at 0 payload (copyClasses 1 payload) i h
+
+  pub two-at : (i : ℕ) → i < length payload + 10 → twoAt k (length payload) i (blockClasses k payload) ≡ byteClasses (getD (copyBytes 1 payload) i 0)
+  unfolding blockClasses
+  two-at i h =
+      let m = 20 * (length payload + 10) + 61 in
+      let e : copyTwo (length payload) k + 20 * i ≡ k + (m + 20 * i) = omega arith in
+      rw e (part-past (replicate k Short) (copyClasses 0 payload ++ copyClasses 1 payload) k (m + 20 * i) 20 (length-replicate k Short)
+      ∙ part-past (copyClasses 0 payload) (copyClasses 1 payload) m (20 * i) 20 (length-copy 0 payload)
+      ∙ ap (λ (cs : List Class). twenty cs (20 * i)) (sym (append-nil (copyClasses 1 payload))) ∙ copy-at 1 payload [] i h)
+
+-- ---- What the writer takes
+
+pub record Within (least most n : ℕ) : Type 0 where
+  pub low : least ≤ n
+  pub high : n ≤ most
+
+pub size-right : (n : ℕ) → wrongSize n ≡ false → Within 1 8192 n
+size-right n e =
+    let h = or-false (eqb n 0) (ltb 8192 n) e in
+    let some : n ≡ 0 → ⊥ = eqb-false n 0 (h .0) in
+    record { low = elim (decLt 0 n) [ yes l ↦ l | no l ↦ absurd (some (omega arith)) ]; high = ltb-false 8192 n (h .1) }
+
+pub leader-right : (k : ℕ) → wrongLeader k ≡ false → Within 64 65535 k
+leader-right k e = let h = or-false (ltb k 64) (ltb 65535 k) e in record { low = ltb-false k 64 (h .0); high = ltb-false 65535 k (h .1) }

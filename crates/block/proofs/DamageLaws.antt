@@ -1,0 +1,225 @@
+-- Laws of damage: every strip within the damage of a block is accepted, with the payload; the block as written is one of them.
+use Prim.Native.Nat.{ℕ, _+_, _-_, _*_, _^_, _≤_, _<_}
+use native.Mathlib.Nat.{zero-add}
+use native.Mathlib.Decide.{decLt}
+use native.Mathlib.Omega.{arith}
+use mathlib.Core.Path.{_≡_, refl, sym, ap, _∙_}
+use mathlib.Core.Logic.{_⊎_, inl, inr}
+use mathlib.Core.Bool.{Bool, true, false, not, _||_}
+use mathlib.Core.List.{List, [], _∷_, _++_}
+use mathlib.Core.Option.{some}
+use borrow.Author.Tests.{le-ltb, ltb-false, eq-eqb}
+use lib.Dec.{ltb, lit<, lit≤}
+use lib.ListN.{length, getD, length-map, length-take, length-drop, getD-replicate, List·getD-append, List·getD-map}
+use lib.Seq.{getD-take, getD-at}
+use Rattle.lists.specs.Places.{tabulate, part, Below}
+use Rattle.lists.specs.Buffer.{putAt}
+use Rattle.lists.proofs.PlaceLaws.{first-none, tabulate-is}
+use Rattle.lists.proofs.PartLaws.{part-part, getD-part, part-map}
+use Rattle.lists.proofs.BufferLaws.{part-put}
+use Rattle.refusal.specs.declared.Reason.the-variants.{WrongSize, NoRoom, WrongLeader}
+use Rattle.refusal.specs.Refusal.{accepted}
+use Rattle.refusal.proofs.OutcomeLaws.{accepted-next}
+use Rattle.pulse.specs.declared.Class.{Class}
+use Rattle.pulse.specs.declared.Class.the-variants.{Short, Medium, Long, Noise}
+use Rattle.pulse.specs.Pulse.{fixed, classOf, classes, code, same, writtenAs}
+use Rattle.pulse.proofs.PulseLaws.{class-at, classes-pulses}
+use Rattle.byte.specs.declared.ByteRead.{ByteRead}
+use Rattle.byte.specs.declared.ByteRead.the-variants.{Good, Bad}
+use Rattle.byte.specs.Byte.{byteClasses, twenty, byteAt, isGood, isBad}
+use Rattle.byte.specs.Damage.{differ}
+use Rattle.byte.proofs.ByteLaws.{byteAt-written}
+use Rattle.byte.proofs.DamageLaws.{byteAt-differ}
+use Rattle.block.specs.Block.{checksum, copyBytes, blockClasses, blockPulses, wrongSize, wrongLeader, writeBlock}
+use Rattle.block.specs.Reading.{startOf, copyTwo, endOf, counted, repaired, placeAt, isLost, valueAt, valuesAt, Block, readCopies, readAt, readFound, readFrom, readBlock}
+use Rattle.block.specs.Damage.{OneSound, DamagedClasses, Damaged}
+use Rattle.block.proofs.BlockLaws.{copy-countdown, copy-value, below-copy, length-blockPulses, leader-right, leader-at, one-at, two-at}
+use Rattle.block.proofs.StartLaws.{start-short}
+
+-- ---- A byte place of which one copy is sound
+
+or-right : (a b : Bool) → b ≡ true → (a || b) ≡ true
+or-right true b e = refl
+or-right false b e = e
+
+repaired-right : (a : ℕ) (r other : ByteRead) → (isBad r ≡ true) ⊎ (r ≡ Good a) → other ≡ Good a → repaired r other ≡ Good a
+repaired-right a (Good v) other (inl h) e = absurd (let z : _≡_ {A = ℕ} 0 1 = cc in omega arith)
+repaired-right a (Good v) other (inr h) e = h
+repaired-right a Bad other h e = e
+
+module _ (cs : List Class) (one two a : ℕ) (small : a < 256) where
+  -- in the countdown, with the value of each copy
+  sound-counted : (b : ℕ) → b < 256 → OneSound (byteClasses a) (twenty cs one) (byteClasses b) (twenty cs two)
+      → (isGood a (byteAt cs one) || isGood b (byteAt cs two)) ≡ true
+  sound-counted b small′ (inl s) = rw (byteAt-written cs one a small (s .0), eq-eqb a a refl)
+  sound-counted b small′ (inr s) =
+      or-right (isGood a (byteAt cs one)) (isGood b (byteAt cs two)) (rw (byteAt-written cs two b small′ (s .0)) (eq-eqb b b refl))
+
+  -- after it, with one value
+  sound-repaired : one + 20 ≤ length cs → OneSound (byteClasses a) (twenty cs one) (byteClasses a) (twenty cs two)
+      → repaired (byteAt cs one) (byteAt cs two) ≡ Good a
+  sound-repaired within (inl s) = rw (byteAt-written cs one a small (s .0))
+  sound-repaired within (inr s) =
+      repaired-right a (byteAt cs one) (byteAt cs two) (byteAt-differ cs one a small within (s .1)) (byteAt-written cs two a small (s .0))
+
+-- ---- On classes
+
+-- the block that is read with its start at a place
+abbrev pub blockAt : ℕ → ℕ → List ℕ → Block
+blockAt n start payload = record { extent = record { n = n; start = start; end = endOf n start }; payload = payload }
+
+-- The strip cs holds, from place o on, what lies within the damage of a block with leader k and n payload bytes.
+module _ (cs : List Class) (o k : ℕ) (payload : List ℕ) {n : ℕ} (long : length payload ≡ n) (below : Below 256 payload)
+    (fits : o + (k + 40 * (n + 10) + 122) ≤ length cs)
+    (d : DamagedClasses k n (blockClasses k payload) (part cs o (k + 40 * (n + 10) + 122))) where
+  abbrev size : ℕ
+  size = k + 40 * (n + 10) + 122
+
+  abbrev one : ℕ
+  one = o + k
+
+  abbrev two : ℕ
+  two = copyTwo n one
+
+  sound : (i : ℕ) → i < n + 10
+      → OneSound (byteClasses (getD (copyBytes 0 payload) i 0)) (twenty cs (one + 20 * i)) (byteClasses (getD (copyBytes 1 payload) i 0)) (twenty cs (two + 20 * i))
+  sound i h =
+      let e₁ : one + 20 * i ≡ o + (k + 20 * i) = omega arith in
+      let e₂ : two + 20 * i ≡ o + (copyTwo n k + 20 * i) = omega arith in
+      let w₂ : twenty (blockClasses k payload) (copyTwo n k + 20 * i) ≡ byteClasses (getD (copyBytes 1 payload) i 0) = rw (← long) (two-at k payload i (omega arith)) in
+      rw (e₁, e₂, ← (part-part cs o size (k + 20 * i) 20 (omega arith)), ← (part-part cs o size (copyTwo n k + 20 * i) 20 (omega arith)))
+      (rw (one-at k payload i (omega arith), w₂) at (d .places i h))
+
+  first-good : byteAt cs one ≡ Good 0x89
+  first-good =
+      let e : one ≡ o + (k + 20 * 0) = omega arith in
+      byteAt-written cs one 0x89 (lit< tt)
+      (ap (twenty cs) e ∙ sym (part-part cs o size (k + 20 * 0) 20 (omega arith)) ∙ d .first ∙ one-at k payload 0 (omega arith)
+      ∙ ap byteClasses (copy-countdown 0 payload 0 (lit< tt)))
+
+  leader-short : (i : ℕ) → i < k → getD cs (o + i) Noise ≡ Short
+  leader-short i h =
+      sym (getD-part cs o size i Noise (omega arith)) ∙ sym (getD-take k (part cs o size) i Noise h)
+      ∙ ap (λ (l : List Class). getD l i Noise) (d .outside .leader ∙ leader-at k payload) ∙ getD-replicate k i Short Noise h
+
+  counted-ok : (i : ℕ) → i < 9 → counted cs one two i ≡ true
+  unfolding counted
+  counted-ok i h =
+      rw (← (copy-countdown 0 payload i h), ← (copy-countdown 1 payload i h))
+      (sound-counted cs (one + 20 * i) (two + 20 * i) _ (below-copy 0 payload below i) _ (below-copy 1 payload below i) (sound i (omega arith)))
+
+  place-ok : (i : ℕ) → i < n + 1 → placeAt cs one two i ≡ Good (getD (payload ++ (checksum payload ∷ [])) i 0)
+  unfolding placeAt
+  place-ok i h =
+      let s = sound (9 + i) (omega arith) in
+      let b = below-copy 0 payload below (9 + i) in
+      sound-repaired cs (one + 20 * (9 + i)) (two + 20 * (9 + i)) (getD (payload ++ (checksum payload ∷ [])) i 0) (rw copy-value at b)
+      (omega arith) (rw (copy-value 0 payload i, copy-value 1 payload i) at s)
+
+  values-ok : valuesAt cs one two n ≡ payload
+  values-ok =
+      ap (λ count. tabulate (valueAt cs one two) count 0) (sym long)
+      ∙ tabulate-is (valueAt cs one two) payload 0 (λ i h. rw (zero-add, place-ok i (omega arith)) (List·getD-append payload (checksum payload ∷ []) 0 i h))
+
+  -- rules 2 to 5, at the end of the leader
+  pub read-there : readAt cs n one ≡ accepted (blockAt n one payload)
+  unfolding readAt readCopies
+  read-there =
+      rw (
+        le-ltb (length cs) (endOf n one) (omega arith),
+        first-none (λ i. not (counted cs one two i)) 9 0 (λ i _ h. rw (counted-ok i (omega arith))),
+        first-none (isLost cs one two) (n + 1) 0 (λ i _ h. rw (place-ok i (omega arith))),
+        values-ok,
+        place-ok n (omega arith),
+        getD-at payload (checksum payload) [] 0 n long,
+        eq-eqb (checksum payload) (checksum payload) refl,
+      )
+
+  -- rule 1, where all between `from` and the block is short
+  module _ (from : ℕ) (far : from + 17 ≤ one) (before : (i : ℕ) → from < i → i < o → getD cs i Noise ≡ Short) where
+    pub start-found : startOf cs from ≡ some one
+    start-found = start-short cs from one far short first-good
+      where
+        short : (i : ℕ) → from < i → i < one → getD cs i Noise ≡ Short
+        short i a b = elim (decLt i o) [
+          | yes h ↦ before i a h
+          | no h ↦ (let e : o + (i - o) ≡ i = omega arith in rw e at (leader-short (i - o) (omega arith)))
+        ]
+
+    pub survives : readFrom cs from n ≡ accepted (blockAt n one payload)
+    unfolding readFrom readFound
+    survives = rw start-found read-there
+
+-- ---- On pulses
+
+-- the same, of a strip of pulses that are classed with the fixed thresholds
+module _ (strip : List ℕ) (o k : ℕ) (payload : List ℕ) {n : ℕ} (long : length payload ≡ n) (below : Below 256 payload)
+    (d : Damaged k payload (part strip o (length (blockPulses k payload)))) (from : ℕ) (far : from + 17 ≤ o + k)
+    (before : (i : ℕ) → from < i → i < o → classOf fixed (getD strip i 0) ≡ Short) where
+  size-block : length (blockPulses k payload) ≡ k + 40 * (n + 10) + 122
+  size-block = rw (← long) (length-blockPulses k payload)
+
+  fits : o + (k + 40 * (n + 10) + 122) ≤ length strip
+  fits = let l = simp (length-take, length-drop) at (d .long) in omega (arith, size-block)
+
+  kept : DamagedClasses k n (blockClasses k payload) (part (classes fixed strip) o (k + 40 * (n + 10) + 122))
+  kept = rw (part-map (classOf fixed) strip o (k + 40 * (n + 10) + 122), ← size-block) (rw (classes-pulses (blockClasses k payload), long) at (d .kept))
+
+  pub read-damaged : readFrom (classes fixed strip) from n ≡ accepted (blockAt n (o + k) payload)
+  read-damaged =
+      survives (classes fixed strip) o k payload long below (rw (length-map strip (classOf fixed)) fits) kept from far
+      (λ i a b. class-at fixed strip i (omega (arith, fits)) ∙ before i a b)
+
+  pub readBlock-damaged : (room : ℕ) → wrongSize n ≡ false → n ≤ room → readBlock (classes fixed strip) room from n ≡ accepted (blockAt n (o + k) payload)
+  unfolding readBlock
+  readBlock-damaged room size enough = rw (size, le-ltb room n enough) read-damaged
+
+-- ---- The block as written
+
+differ-self : (cs : List Class) → differ cs cs ≡ 0
+unfolding differ same
+differ-self [] = refl
+differ-self (c ∷ cs) = rw (eq-eqb (code c) (code c) refl, differ-self cs)
+
+damaged-self : (k n : ℕ) (w : List Class) → DamagedClasses k n w w
+damaged-self k n w = record {
+  outside = record { leader = refl; between = refl; after = refl };
+  first = refl;
+  places = λ i h. inl (refl, rw (differ-self (twenty w (copyTwo n k + 20 * i))) (lit≤ tt));
+}
+
+written-lt : (c : Class) → writtenAs c < 2 ^ 32
+written-lt Short = lit< tt
+written-lt Medium = lit< tt
+written-lt Long = lit< tt
+written-lt Noise = lit< tt
+
+-- it lies within its own damage
+pub undamaged : (k : ℕ) (payload : List ℕ) → Damaged k payload (blockPulses k payload)
+undamaged k payload = record {
+  long = refl;
+  counts = λ i. rw (List·getD-map writtenAs (blockClasses k payload) i Noise) (written-lt (getD (blockClasses k payload) i Noise));
+  kept = damaged-self k (length payload) (classes fixed (blockPulses k payload));
+}
+
+-- what the writer accepts
+written : (room k : ℕ) (payload strip : List ℕ) → writeBlock room k payload ≡ accepted strip
+    → (wrongSize (length payload) ≡ false) × (64 ≤ k) × (length (blockPulses k payload) ≤ room) × (blockPulses k payload ≡ strip)
+unfolding writeBlock
+written room k payload strip e =
+    let a = accepted-next (wrongSize (length payload)) WrongSize _ strip e in
+    let b = accepted-next (wrongLeader k) WrongLeader _ strip (a .1) in
+    let c = accepted-next (ltb room (length (blockPulses k payload))) NoRoom _ strip (b .1) in
+    (a .0, leader-right k (b .0) .low, ltb-false room (length (blockPulses k payload)) (c .0), cc)
+
+-- what the writer put is read, from place 0 on
+pub readBlock-written : (room k : ℕ) (payload strip out : List ℕ) → writeBlock room k payload ≡ accepted strip → Below 256 payload → length out ≡ room
+    → (enough : ℕ) → length payload ≤ enough
+    → readBlock (classes fixed (putAt out 0 strip)) enough 0 (length payload) ≡ accepted (blockAt (length payload) k payload)
+readBlock-written room k payload strip out e below long enough h =
+    let w = written room k payload strip e in
+    let there = part-put out 0 (blockPulses k payload) (omega arith) in
+    rw (← (w .3))
+    (readBlock-damaged (putAt out 0 (blockPulses k payload)) 0 k payload refl below (rw there (undamaged k payload)) 0 (omega arith) (λ i a b. absurd (omega arith))
+    enough (w .0) h
+    ∙ ap (λ start. accepted (blockAt (length payload) start payload)) (zero-add k))

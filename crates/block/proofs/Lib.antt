@@ -1,0 +1,8 @@
+mod Countdowns
+mod Writing
+mod Searching
+mod Checking
+mod Answers
+pub mod BlockLaws
+pub mod StartLaws
+pub mod DamageLaws

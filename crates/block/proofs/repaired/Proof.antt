@@ -1,0 +1,55 @@
+-- `block::repaired` meets its contract, by whether copy one's byte is good.
+use mathlib.Core.Path.{sym, _∙_}
+use Rattle.block.specs.Reading.{placeAt}
+use borrow.Author.Needs.{needs}
+use Rattle.block.proofs.repaired.Statement.{statement}
+use Rattle.block.proofs.repaired.Tie as tie
+
+add-at : tie.Need-add-at
+add-at c = search needs
+
+mul-at : tie.Need-mul-at
+mul-at c = search needs
+
+add-read-byte : tie.Need-add-read-byte
+add-read-byte c = search needs
+
+read-byte-requires : tie.Need-read-byte-requires
+read-byte-requires c κs = search needs
+
+enum-known-value : tie.Need-enum-known-value
+enum-known-value c = search needs
+
+enum-told : tie.Need-enum-told
+enum-told c = search needs
+
+add-read-byte-2 : tie.Need-add-read-byte-2
+add-read-byte-2 c = search needs
+
+read-byte-requires-2 : tie.Need-read-byte-requires-2
+read-byte-requires-2 c κs = search needs
+
+returns : tie.Need-returns
+unfolding placeAt
+returns c =
+    let r = c .before .before .before in
+    rw (← (r .read-byte .ensures), c .before .enum-told .given .1) (c .read-byte2 .ensures)
+
+returns-2 : tie.Need-returns-2
+unfolding placeAt
+returns-2 c = let r = c .before .before .before in rw (← (r .read-byte .ensures), c .before .value .given .1)
+
+pub repaired-spec : {M : Type 1} → statement M
+repaired-spec =
+    tie.close
+    (tie.spec
+    add-at
+    mul-at
+    add-read-byte
+    read-byte-requires
+    enum-known-value
+    enum-told
+    add-read-byte-2
+    read-byte-requires-2
+    returns
+    returns-2)

@@ -1,0 +1,350 @@
+// Blocks. A block carries n payload bytes, 1 to 8,192, and is recorded twice.
+//
+//   leader          copy one                       trailer    copy two                       trailer
+//   K short pulses  $89 .. $81, payload, checksum  L and 60 S  $09 .. $01, payload, checksum  L and 60 S
+//
+// The checksum is $00 XORed with each payload byte. A copy has n + 10 byte places of twenty pulses each.
+use byte::ByteRead;
+use pulse::Class;
+use pulse::Cycles;
+use pulse::Thresholds;
+use refusal::Put;
+use refusal::Reason;
+use refusal::Refusal;
+ghost use Prim.Native.Nat.{_+_, _*_, _≤_, _<_};
+ghost use mathlib.Core.Path.{_≡_};
+ghost use lib.ListN.{length, replicate};
+ghost use lib.Seq.{sets};
+ghost use Rattle.lists.specs.Places.{firstFrom};
+ghost use Rattle.lists.specs.Buffer.{putAt};
+ghost use Rattle.refusal.specs.Refusal.{mapped, puts, putAnswer, refusalAt};
+ghost use Rattle.pulse.specs.Pulse.{fixed, classes, pulses};
+ghost use Rattle.pulse.specs.declared.Class.the-variants.{Short};
+ghost use Rattle.byte.specs.Byte.{byteAt, isGood};
+ghost use Rattle.block.specs.Block.{checksum, bytesClasses, trailer, copyClasses, wrongSize, wrongLeader, writeBlock};
+ghost use Rattle.block.specs.Reading.{startOf, counted, isMiscounted, placeAt, valueOrZero, valuesAt, isLost, sumHolds, readAt, readBlock, blockAnswer, extentOf, payloadOf};
+ghost use Rattle.block.specs.Checks.{foundAt, checkOf};
+
+// The largest payload.
+pub const MOST_BYTES: usize = 8192;
+
+pub const LEAST_LEADER: usize = 64;
+
+pub const MOST_LEADER: usize = 65535;
+
+const COUNTDOWN_BYTES: usize = 9;
+
+const COUNTDOWNS: [[u8; 9]; 2] = [
+    [0x89, 0x88, 0x87, 0x86, 0x85, 0x84, 0x83, 0x82, 0x81],
+    [0x09, 0x08, 0x07, 0x06, 0x05, 0x04, 0x03, 0x02, 0x01],
+];
+
+// The bytes of a copy beside the payload: the countdown and the checksum.
+const EXTRA_BYTES: usize = COUNTDOWN_BYTES + 1;
+
+// The short pulses of a trailer, after its long one.
+const TRAILER_SHORTS: usize = 60;
+
+const TRAILER_PULSES: usize = 1 + TRAILER_SHORTS;
+
+// The short pulses that a start has just before it, and the byte that it has from there on.
+const SYNC_SHORTS: usize = 16;
+
+const SYNC_BYTE: u8 = 0x89;
+
+// Where an accepted block stands: its payload bytes, its start, and the place after copy two.
+pub struct Extent {
+    pub n: usize,
+    pub start: usize,
+    pub end: usize,
+}
+
+// What the block reader answers.
+pub enum BlockAnswer {
+    Accepted(Extent),
+    Refused(Refusal),
+}
+
+// Writes a block with a leader of that many short pulses, and answers the number of pulses put. It refuses a payload or a leader of
+// a wrong size and an output that is too short.
+pub fn write_block(payload: &[u8], leader: usize, out: &mut [u32]) -> Put
+    ensures answer { λ r. ⌜ putAnswer r ≡ mapped length (writeBlock (length (now (out .entry))) leader (now (payload .entry))) ⌝ }
+    ensures put { λ _. ⌜ now (out .exit) ≡ putAt (now (out .entry)) 0 (puts (writeBlock (length (now (out .entry))) leader (now (payload .entry)))) ⌝ }
+{
+    let n = payload.len();
+    if wrong_size(n) {
+        return Put::Refused(refusal::at(Reason::WrongSize, 0));
+    }
+    if wrong_leader(leader) {
+        return Put::Refused(refusal::at(Reason::WrongLeader, 0));
+    }
+    let copy = byte::BYTE_PULSES * (n + EXTRA_BYTES);
+    let two = leader + copy + TRAILER_PULSES;
+    let count = two + copy + TRAILER_PULSES;
+    if out.len() < count {
+        return Put::Refused(refusal::at(Reason::NoRoom, 0));
+    }
+    let sum = checksum_of(payload);
+    put_shorts(out, 0, leader);
+    put_copy(out, leader, 0, payload, sum);
+    put_copy(out, two, 1, payload, sum);
+    Put::Count(count)
+}
+
+// Reads the first block of n payload bytes at or after `from`, and puts its payload. It refuses a wrong n, an output that is too short,
+// and a strip that holds no such block.
+pub fn read_block(strip: &[u32], from: usize, n: usize, out: &mut [u8]) -> BlockAnswer
+    ensures answer { λ r. ⌜ blockAnswer r ≡ mapped extentOf (readBlock (classes fixed (now (strip .entry))) (length (now (out .entry))) from n) ⌝ }
+    ensures put { λ _. ⌜ now (out .exit) ≡ putAt (now (out .entry)) 0 (puts (mapped payloadOf (readBlock (classes fixed (now (strip .entry))) (length (now (out .entry))) from n))) ⌝ }
+{
+    if wrong_size(n) {
+        return refused(Reason::WrongSize, 0);
+    }
+    if out.len() < n {
+        return refused(Reason::NoRoom, 0);
+    }
+    let t = Thresholds::standard();
+    let Found::At(start) = find_start(t, strip, from) else {
+        return refused(Reason::NoStart, 0);
+    };
+    read_at(t, strip, start, n, out)
+}
+
+fn wrong_size(n: usize) -> bool
+    ensures { λ r. ⌜ r ≡ wrongSize n ⌝ }
+{
+    (n == 0) | (MOST_BYTES < n)
+}
+
+fn wrong_leader(leader: usize) -> bool
+    ensures { λ r. ⌜ r ≡ wrongLeader leader ⌝ }
+{
+    (leader < LEAST_LEADER) | (MOST_LEADER < leader)
+}
+
+// ---- Writing
+
+fn checksum_of(payload: &[u8]) -> u8
+    ensures { λ r. ⌜ r ≡ checksum (now (payload .entry)) ⌝ }
+{
+    let mut sum: u8 = 0;
+    let mut i: usize = 0;
+    while i < payload.len() {
+        sum = sum ^ payload[i];
+        i = i + 1;
+    }
+    sum
+}
+
+fn put_shorts(out: &mut [u32], at: usize, count: usize)
+    requires { ⌜ at + count ≤ length (now out) ⌝ }
+    ensures { λ _. ⌜ now (out .exit) ≡ sets (now (out .entry)) at (pulses (replicate count Short)) ⌝ }
+{
+    let short = pulse::written_as(Class::Short);
+    let mut i: usize = 0;
+    while i < count {
+        out[at + i] = short.0;
+        i = i + 1;
+    }
+}
+
+fn put_trailer(out: &mut [u32], at: usize)
+    requires { ⌜ at + 61 ≤ length (now out) ⌝ }
+    ensures { λ _. ⌜ now (out .exit) ≡ sets (now (out .entry)) at (pulses trailer) ⌝ }
+{
+    let long = pulse::written_as(Class::Long);
+    out[at] = long.0;
+    put_shorts(out, at + 1, TRAILER_SHORTS);
+}
+
+fn put_bytes(out: &mut [u32], at: usize, bytes: &[u8])
+    requires { ⌜ at + 20 * length (now bytes) ≤ length (now out) ⌝ }
+    ensures { λ _. ⌜ now (out .exit) ≡ sets (now (out .entry)) at (pulses (bytesClasses (now (bytes .entry)))) ⌝ }
+{
+    let mut i: usize = 0;
+    while i < bytes.len() {
+        byte::put_byte(out, at + byte::BYTE_PULSES * i, bytes[i]);
+        i = i + 1;
+    }
+}
+
+// Puts copy one, for copy 0, or copy two, for copy 1, with its trailer.
+fn put_copy(out: &mut [u32], at: usize, copy: usize, payload: &[u8], sum: u8)
+    requires small { ⌜ (copy < 2) × (at + 20 * (length (now payload) + 10) + 61 ≤ length (now out)) ⌝ }
+    requires summed { ⌜ sum ≡ checksum (now payload) ⌝ }
+    ensures { λ _. ⌜ now (out .exit) ≡ sets (now (out .entry)) at (pulses (copyClasses copy (now (payload .entry)))) ⌝ }
+{
+    let countdown = COUNTDOWNS[copy];
+    let values = at + byte::BYTE_PULSES * COUNTDOWN_BYTES;
+    let last = values + byte::BYTE_PULSES * payload.len();
+    put_bytes(out, at, &countdown);
+    put_bytes(out, values, payload);
+    byte::put_byte(out, last, sum);
+    put_trailer(out, last + byte::BYTE_PULSES);
+}
+
+// ---- Reading
+
+// The first place that a search is for.
+enum Found {
+    At(usize),
+    Nothing,
+}
+
+// What rules 4 and 5 say of the values.
+enum Check {
+    Sound,
+    LostAt(usize),
+    WrongSum,
+}
+
+fn refused(reason: Reason, place: usize) -> BlockAnswer
+    ensures { λ r. ⌜ r ≡ BlockAnswer.Refused (refusalAt reason place) ⌝ }
+{
+    BlockAnswer::Refused(refusal::at(reason, place))
+}
+
+// Whether a place of the strip holds a good byte of this value.
+fn holds(t: Thresholds, strip: &[u32], at: usize, value: u8) -> bool
+    ensures { λ r. ⌜ r ≡ isGood value (byteAt (classes t (now (strip .entry))) at) ⌝ }
+{
+    match byte::read_byte(t, strip, at) {
+        ByteRead::Good(b) => b == value,
+        ByteRead::Bad => false,
+    }
+}
+
+// Rule 1. No byte begins with a short pulse, so a place is looked at only where a run of short pulses ends.
+fn find_start(t: Thresholds, strip: &[u32], from: usize) -> Found
+    ensures { λ r. ⌜ foundAt r ≡ startOf (classes t (now (strip .entry))) from ⌝ }
+{
+    let mut at = from;
+    let mut shorts: usize = 0;
+    'search: loop {
+        if strip.len() <= at {
+            break 'search Found::Nothing;
+        }
+        if pulse::is_short(t, Cycles(strip[at])) {
+            shorts = shorts + 1;
+        } else {
+            'look: loop {
+                if shorts < SYNC_SHORTS {
+                    break 'look;
+                }
+                if holds(t, strip, at, SYNC_BYTE) {
+                    break 'search Found::At(at);
+                }
+                break 'look;
+            }
+            shorts = 0;
+        }
+        at = at + 1;
+    }
+}
+
+// Rules 2 to 5, for a start that was found. Nothing is put before all of them hold.
+fn read_at(t: Thresholds, strip: &[u32], start: usize, n: usize, out: &mut [u8]) -> BlockAnswer
+    requires { ⌜ (start ≤ length (now strip)) × (n < 65536) × (n ≤ length (now out)) ⌝ }
+    ensures answer { λ r. ⌜ blockAnswer r ≡ mapped extentOf (readAt (classes t (now (strip .entry))) n start) ⌝ }
+    ensures put { λ _. ⌜ now (out .exit) ≡ putAt (now (out .entry)) 0 (puts (mapped payloadOf (readAt (classes t (now (strip .entry))) n start))) ⌝ }
+{
+    let copy = byte::BYTE_PULSES * (n + EXTRA_BYTES);
+    let two = start + copy + TRAILER_PULSES;
+    let end = two + copy;
+    if strip.len() < end {
+        return refused(Reason::CutShort, start);
+    }
+    if let Found::At(i) = first_miscounted(t, strip, start, two) {
+        return refused(Reason::WrongCountdown, i);
+    }
+    match check_values(t, strip, start, two, n) {
+        Check::LostAt(i) => refused(Reason::LostByte, i),
+        Check::WrongSum => refused(Reason::WrongChecksum, n),
+        Check::Sound => {
+            put_values(t, strip, start, two, n, out);
+            BlockAnswer::Accepted(Extent { n, start, end })
+        }
+    }
+}
+
+// Rule 3 at countdown place i of the copies from `one` and from `two` on.
+fn is_counted(t: Thresholds, strip: &[u32], one: usize, two: usize, i: usize) -> bool
+    requires { ⌜ (i < 9) × (one ≤ two) × (two + 180 ≤ length (now strip)) ⌝ }
+    ensures { λ r. ⌜ r ≡ counted (classes t (now (strip .entry))) one two i ⌝ }
+{
+    let at = byte::BYTE_PULSES * i;
+    if holds(t, strip, one + at, COUNTDOWNS[0][i]) {
+        return true;
+    }
+    holds(t, strip, two + at, COUNTDOWNS[1][i])
+}
+
+fn first_miscounted(t: Thresholds, strip: &[u32], one: usize, two: usize) -> Found
+    requires { ⌜ (one ≤ two) × (two + 180 ≤ length (now strip)) ⌝ }
+    ensures { λ r. ⌜ foundAt r ≡ firstFrom (isMiscounted (classes t (now (strip .entry))) one two) 9 0 ⌝ }
+{
+    let mut i: usize = 0;
+    while i < COUNTDOWN_BYTES {
+        if !is_counted(t, strip, one, two, i) {
+            return Found::At(i);
+        }
+        i = i + 1;
+    }
+    Found::Nothing
+}
+
+// Rule 4 at place i after the countdown: copy one's byte where it is good, else copy two's.
+fn repaired(t: Thresholds, strip: &[u32], one: usize, two: usize, i: usize) -> ByteRead
+    requires { ⌜ (one ≤ two) × (two + 20 * (9 + i) ≤ length (now strip)) ⌝ }
+    ensures { λ r. ⌜ r ≡ placeAt (classes t (now (strip .entry))) one two i ⌝ }
+{
+    let at = byte::BYTE_PULSES * (COUNTDOWN_BYTES + i);
+    let ByteRead::Good(value) = byte::read_byte(t, strip, one + at) else {
+        return byte::read_byte(t, strip, two + at);
+    };
+    ByteRead::Good(value)
+}
+
+// Rules 4 and 5: whether a place is lost, and whether the checksum holds for the repaired values.
+fn check_values(t: Thresholds, strip: &[u32], one: usize, two: usize, n: usize) -> Check
+    requires { ⌜ (one ≤ two) × (two + 20 * (n + 10) ≤ length (now strip)) ⌝ }
+    ensures { λ r. ⌜ r ≡ checkOf (firstFrom (isLost (classes t (now (strip .entry))) one two) (n + 1) 0) (sumHolds (classes t (now (strip .entry))) one two n) ⌝ }
+{
+    let mut sum: u8 = 0;
+    let mut i: usize = 0;
+    while i < n {
+        let ByteRead::Good(value) = repaired(t, strip, one, two, i) else {
+            return Check::LostAt(i);
+        };
+        sum = sum ^ value;
+        i = i + 1;
+    }
+    let ByteRead::Good(expected) = repaired(t, strip, one, two, n) else {
+        return Check::LostAt(n);
+    };
+    if sum == expected {
+        Check::Sound
+    } else {
+        Check::WrongSum
+    }
+}
+
+fn value_or_zero(r: ByteRead) -> u8
+    ensures { λ v. ⌜ v ≡ valueOrZero r ⌝ }
+{
+    match r {
+        ByteRead::Good(value) => value,
+        ByteRead::Bad => 0,
+    }
+}
+
+fn put_values(t: Thresholds, strip: &[u32], one: usize, two: usize, n: usize, out: &mut [u8])
+    requires { ⌜ (one ≤ two) × (two + 20 * (n + 10) ≤ length (now strip)) × (n ≤ length (now out)) ⌝ }
+    ensures { λ _. ⌜ now (out .exit) ≡ sets (now (out .entry)) 0 (valuesAt (classes t (now (strip .entry))) one two n) ⌝ }
+{
+    let mut i: usize = 0;
+    while i < n {
+        out[i] = value_or_zero(repaired(t, strip, one, two, i));
+        i = i + 1;
+    }
+}

@@ -1,0 +1,67 @@
+// Refusals. A call that refuses its input tells the reason, the block and the place; it alters nothing in a lent buffer.
+ghost use mathlib.Core.Path.{_≡_};
+ghost use Rattle.refusal.specs.Refusal.{numberOf, refusalAt};
+
+// The reasons, in the order of their numbers.
+pub enum Reason {
+    WrongSize,
+    NoRoom,
+    NoStart,
+    CutShort,
+    WrongCountdown,
+    LostByte,
+    WrongChecksum,
+    WrongType,
+    WrongAddresses,
+    WrongTapHeader,
+    WrongTapVersion,
+    CutLongForm,
+    NoTapForm,
+    WrongLeader,
+}
+
+// The block is 0 for a header or a lone block and 1 for a program file's data block. The place is 0 where the reason names none.
+pub struct Refusal {
+    pub reason: Reason,
+    pub block: u32,
+    pub place: usize,
+}
+
+// What a writer answers: how many elements it put, or why it put none.
+pub enum Put {
+    Count(usize),
+    Refused(Refusal),
+}
+
+// The number that a reason is known by.
+pub fn number(reason: Reason) -> u32
+    ensures { λ r. ⌜ r ≡ numberOf reason ⌝ }
+{
+    match reason {
+        Reason::WrongSize => 1,
+        Reason::NoRoom => 2,
+        Reason::NoStart => 3,
+        Reason::CutShort => 4,
+        Reason::WrongCountdown => 5,
+        Reason::LostByte => 6,
+        Reason::WrongChecksum => 7,
+        Reason::WrongType => 8,
+        Reason::WrongAddresses => 9,
+        Reason::WrongTapHeader => 10,
+        Reason::WrongTapVersion => 11,
+        Reason::CutLongForm => 12,
+        Reason::NoTapForm => 13,
+        Reason::WrongLeader => 14,
+    }
+}
+
+// A refusal that names no other block than 0.
+pub fn at(reason: Reason, place: usize) -> Refusal
+    ensures { λ r. ⌜ r ≡ refusalAt reason place ⌝ }
+{
+    Refusal {
+        reason,
+        block: 0,
+        place,
+    }
+}
