@@ -1,12 +1,15 @@
 -- The cases of document 01 that are marked P, in its order: one list of statements, and that all of them hold.
-use Prim.Native.Nat.{ℕ, _+_}
+use Prim.Native.Nat.{ℕ, _+_, _*_}
 use mathlib.Core.Path.{_≡_}
 use mathlib.Core.List.{List, [], _∷_}
-use lib.ListN.{getD, set}
+use lib.ListN.{length, getD, set, replicate}
+use Rattle.refusal.specs.Refusal.{refused, accepted, mapped}
 use Rattle.pulse.specs.declared.Class.the-variants.{Short, Medium, Long, Noise}
 use Rattle.pulse.specs.Pulse.{fixed, classOf, classes}
 use Rattle.byte.specs.declared.ByteRead.the-variants.{Good}
 use Rattle.byte.specs.Byte.{parityBit, byteClasses, bytePulses, byteAt}
+use Rattle.block.specs.Block.{checksum, blockPulses, writeBlock}
+use Rattle.block.specs.Reading.{readBlock}
 
 abbrev pub All : List (Type 0) → Type 0
 All [] = Unit {0}
@@ -19,6 +22,10 @@ swapped i strip = set (set strip i (getD strip (i + 1) 0)) (i + 1) (getD strip i
 -- bits 0 and 1 of the byte at a place turned round, four pulses
 abbrev pub turned : ℕ → List ℕ → List ℕ
 turned p strip = swapped (p + 4) (swapped (p + 2) strip)
+
+-- the header of a type 1 program from $0801 to $9709, named GAME
+abbrev pub gameHeader : List ℕ
+gameHeader = 0x01 ∷ 0x01 ∷ 0x08 ∷ 0x09 ∷ 0x97 ∷ 0x47 ∷ 0x41 ∷ 0x4d ∷ 0x45 ∷ replicate 183 0x20
 
 abbrev pub cases : List (Type 0)
 cases =
@@ -39,6 +46,13 @@ cases =
     ∷ (parityBit 0xff ≡ 1)
     ∷ (parityBit 0x22 ≡ 1)
     ∷ (parityBit 0x07 ≡ 0)
+    ∷ (checksum (0x41 ∷ []) ≡ 0x41)
+    ∷ (checksum (0x41 ∷ 0x41 ∷ []) ≡ 0x00)
+    ∷ (checksum gameHeader ≡ 0xb8)
     -- $00 with bits 0 and 1 turned round is a good $03
     ∷ (byteAt (classes fixed (turned 0 (bytePulses 0x00))) 0 ≡ Good 0x03)
+    -- the same in copy one's payload place, n = 1: refused with 7, place 1
+    ∷ (readBlock (classes fixed (turned (64 + 20 * 9) (blockPulses 64 (0x00 ∷ [])))) 1 0 1 ≡ refused 7 0 1)
+    -- n = 1, K = 64: 626 pulses
+    ∷ (mapped length (writeBlock 626 64 (0x00 ∷ [])) ≡ accepted 626)
     ∷ []
