@@ -6,8 +6,8 @@ use native.Mathlib.Omega.{arith}
 use mathlib.Core.Path.{_≡_, refl, sym, ap, _∙_}
 use mathlib.Core.Bool.{false}
 use mathlib.Core.List.{List, [], _∷_, _++_, append-assoc, append-nil}
-use lib.Bits.{bitXor, xor-lt}
 use borrow.Author.Tests.{ltb-false, eqb-false}
+use lib.Bits.{bitXor, xor-lt}
 use lib.Dec.{eqb, ltb, lit<}
 use lib.ListN.{length, getD, replicate, length-append, length-replicate, length-map, List·getD-append, List·getD-eq-default}
 use lib.Seq.{take-at, getD-append-add}

@@ -4,10 +4,9 @@ use native.Mathlib.Omega.{arith}
 use mathlib.Core.Path.{_≡_, sym, ap, ap₂, _∙_}
 use mathlib.Core.Bool.{Bool, true, false}
 use mathlib.Core.List.{List}
-use mathlib.Core.Option.{none, some}
+use mathlib.Core.Option.{none}
 use borrow.Author.Tests.{eq-eqb, ne-eqb}
 use lib.Bits.{bitXor}
-use lib.Dec.{eqb}
 use Rattle.lists.specs.Places.{firstFrom}
 use Rattle.lists.proofs.LoopLaws.{firstLeft, first-begun, first-passed, first-here, first-over, tableLeft, table-begun, table-next, table-over}
 use Rattle.pulse.specs.declared.Class.{Class}

@@ -6,10 +6,10 @@ use native.Mathlib.Omega.{arith}
 use mathlib.Core.Path.{_≡_, refl, sym, ap, ap₂, _∙_}
 use mathlib.Core.Bool.{true, false}
 use mathlib.Core.List.{List, [], _∷_, _++_, append-nil, append-assoc, map-append}
+use borrow.Author.Tests.{lt-ltb, le-ltb}
 use lib.Bits.{bitXor}
 use lib.ListN.{length, drop, getD, set, replicate, length-replicate, length-append, length-map, drop-of-length-le}
 use lib.Seq.{sets, length-sets, drop-cons}
-use borrow.Author.Tests.{lt-ltb, le-ltb}
 use Rattle.lists.specs.Buffer.{putAt}
 use Rattle.lists.proofs.BufferLaws.{put-room}
 use Rattle.lists.proofs.LoopLaws.{Putting, put-begun, put-next, put-one, put-done}
@@ -18,9 +18,8 @@ use Rattle.refusal.specs.declared.Reason.the-variants.{WrongSize, NoRoom, Wrong
 use Rattle.refusal.specs.declared.Refusal.{Refusal}
 use Rattle.refusal.specs.declared.Put.{Put}
 use Rattle.refusal.specs.declared.Put.the-variants.{Count, Refused}
-use Rattle.refusal.specs.Refusal.{Outcome, accepted, refuse, refusalAt, mapped, puts, putAnswer}
+use Rattle.refusal.specs.Refusal.{accepted, refuse, refusalAt, mapped, puts, putAnswer}
 use Rattle.refusal.proofs.OutcomeLaws.{told-refused, puts-refused}
-use Rattle.pulse.specs.declared.Class.{Class}
 use Rattle.pulse.specs.declared.Class.the-variants.{Short}
 use Rattle.pulse.specs.Pulse.{writtenAs, pulses}
 use Rattle.pulse.proofs.PulseLaws.{sets-pulses}

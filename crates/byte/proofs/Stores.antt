@@ -3,13 +3,13 @@ use Prim.Native.Nat.{ℕ, zero, suc, _+_, _-_, _*_, _/_, _%_, _≤_, _<_}
 use native.Mathlib.Omega.{arith}
 use mathlib.Core.Path.{_≡_, refl, sym, ap, _∙_}
 use mathlib.Core.Bool.{true, false}
-use mathlib.Core.List.{List, [], _∷_, _++_}
+use mathlib.Core.List.{List, [], _∷_, map-append}
 use borrow.Author.Tests.{le-leb, lt-leb}
 use lib.ListN.{length, length-map}
-use lib.Seq.{sets, length-sets}
+use lib.Seq.{sets}
 use Rattle.lists.specs.Buffer.{hasRoom, putAt}
 use Rattle.lists.proofs.BufferLaws.{put-room, put-none}
-use Rattle.pulse.specs.declared.Class.{Class}
+use Rattle.lists.proofs.LoopLaws.{Putting, put-begun, put-next, put-done}
 use Rattle.pulse.specs.declared.Class.the-variants.{Short, Medium, Long}
 use Rattle.pulse.specs.Pulse.{writtenAs, pulses}
 use Rattle.pulse.proofs.PulseLaws.{sets-pulses}
@@ -29,33 +29,28 @@ coded-one (suc d) h = refl
 
 -- ---- The eight bits: with i of them put, the rest put after them gives the whole
 
-pub record Putting (out₀ : List ℕ) (at b : ℕ) (out : List ℕ) (rest i : ℕ) : Type 0 where
-  pub few : i ≤ 8
-  pub long : length out ≡ length out₀
-  pub whole : sets out (at + 2 * i) (pulses (coded (bits (8 - i) rest))) ≡ sets out₀ at (pulses (coded (bits 8 b)))
+module _ (out₀ : List ℕ) (at b : ℕ) where
+  abbrev pub BitsPut : List ℕ → ℕ → ℕ → Type 0
+  BitsPut out rest i = Putting out₀ at (pulses (coded (bits 8 b))) out (at + 2 * i) (pulses (coded (bits (8 - i) rest)))
 
-pub begun : (out : List ℕ) (at b : ℕ) → Putting out at b out b 0
-begun out at b = record { few = omega arith; long = refl; whole = ap (λ p. sets out p (pulses (coded (bits 8 b)))) (let z : at + 2 * 0 ≡ at = omega arith in z) }
+  pub begun : BitsPut out₀ b 0
+  begun = put-begun out₀ at (at + 2 * 0) _ _ (omega arith) refl
 
-module _ {out₀ out : List ℕ} {at b rest i : ℕ} (u : Putting out₀ at b out rest i) where
-  pub next : (out′ : List ℕ) → i < 8 → out′ ≡ sets out (at + 2 * i) (pulses (coded (rest % 2 ∷ []))) → Putting out₀ at b out′ (rest / 2) (i + 1)
-  unfolding bits
-  next out′ more e = record {
-    few = omega arith;
-    long = ap length e ∙ simp length-sets (u .long);
-    whole =
+  module _ {out : List ℕ} (rest : ℕ) {i : ℕ} (u : BitsPut out rest i) where
+    pub next : {out′ : List ℕ} → i < 8 → out′ ≡ sets out (at + 2 * i) (pulses (coded (rest % 2 ∷ []))) → BitsPut out′ (rest / 2) (i + 1)
+    unfolding bits
+    next more e =
         let s : 8 - i ≡ suc (8 - (i + 1)) = omega arith in
-        let p : at + 2 * (i + 1) ≡ at + 2 * i + 2 = omega arith in
-        let left = bits (8 - (i + 1)) (rest / 2) in
-        rw (p, e) (sets-pulses out (at + 2 * i) 2 (coded (rest % 2 ∷ [])) (coded left) (length-coded (rest % 2 ∷ [])))
-        ∙ ap (λ cs. sets out (at + 2 * i) (pulses cs)) (sym (coded-append (rest % 2 ∷ []) left))
-        ∙ ap (λ k. sets out (at + 2 * i) (pulses (coded (bits k rest)))) (sym s)
-        ∙ u .whole;
-  }
+        let now = coded (rest % 2 ∷ []) in
+        let left = coded (bits (8 - (i + 1)) (rest / 2)) in
+        put-next u (pulses now) (pulses left)
+        (ap (λ k. pulses (coded (bits k rest))) s ∙ ap pulses (coded-append (rest % 2 ∷ []) (bits (8 - (i + 1)) (rest / 2))) ∙ map-append writtenAs now left)
+        e
+        (rw (length-map now writtenAs, length-coded (rest % 2 ∷ [])) (omega arith))
 
-  pub done : 8 ≤ i → out ≡ sets out₀ at (pulses (coded (bits 8 b)))
-  unfolding bits coded
-  done last = ap (λ k. sets out (at + 2 * i) (pulses (coded (bits k rest)))) (let z : 0 ≡ 8 - i = omega arith in z) ∙ u .whole
+    pub done : 8 ≤ i → out ≡ sets out₀ at (pulses (coded (bits 8 b)))
+    unfolding bits coded
+    done last = put-done u (ap (λ k. pulses (coded (bits k rest))) (let z : 8 - i ≡ 0 = omega arith in z))
 
 -- ---- The whole byte
 

@@ -1,7 +1,7 @@
 -- Laws of outcomes: what a refusal answers and puts, and what is accepted after a test that refuses.
 use Prim.Native.Nat.{ℕ}
 use native.Mathlib.Omega.{arith}
-use mathlib.Core.Path.{_≡_, refl, ap, _∙_}
+use mathlib.Core.Path.{_≡_}
 use mathlib.Core.Bool.{Bool, false, cond}
 use mathlib.Core.List.{List}
 use borrow.Author.Tests.{le-leb}
@@ -10,7 +10,7 @@ use Rattle.lists.specs.Buffer.{putAt}
 use Rattle.lists.proofs.BoolLaws.{cond-second}
 use Rattle.refusal.specs.declared.Reason.{Reason}
 use Rattle.refusal.specs.declared.Refusal.{Refusal}
-use Rattle.refusal.specs.Refusal.{Outcome, refused, accepted, refuse, refusalAt, told, mapped, puts}
+use Rattle.refusal.specs.Refusal.{Outcome, accepted, refuse, refusalAt, told, mapped, puts}
 
 module _ {A : Type 0} {o : Outcome A} (reason : Reason) {place : ℕ} (e : o ≡ refuse reason place) where
   pub mapped-refused : {B : Type 0} (f : A → B) → mapped f o ≡ refuse reason place

@@ -1,19 +1,15 @@
+-- `block::check_values` meets its contract. The invariant: no place so far is lost, and the sum so far, XORed with the values left, is
+-- the checksum.
+use Prim.Native.Nat.{_-_}
 use native.Mathlib.Omega.{arith}
-use mathlib.Core.Path.{sym, ap, _∙_}
+use mathlib.Core.Path.{sym, ap, _∙_, _≡_}
+use borrow.Author.Needs.{needs}
 use denote.Ref.{now}
+use Rattle.pulse.specs.Pulse.{classes}
 use Rattle.block.specs.declared.Check.the-variants.{LostAt}
 use Rattle.block.specs.Reading.{placeAt}
 use Rattle.block.proofs.Checking.{Checking, begun, lost, next, sound, wrong}
-use borrow.Author.Needs.{needs}
--- `block::check_values` meets its contract. The invariant: no place so far is lost, and the sum so far, XORed with the values left, is
--- the checksum.
-use Prim.Native.Nat.{_+_, _-_, _≤_}
-use mathlib.Core.Path.{_≡_}
-use Rattle.lists.specs.Places.{firstFrom}
-use Rattle.lists.proofs.LoopLaws.{firstLeft, tableLeft}
-use Rattle.pulse.specs.Pulse.{classes}
-use Rattle.block.specs.Block.{xorFrom, checksum}
-use Rattle.block.specs.Reading.{isLost, valueAt, valuesAt}
+use Rattle.block.specs.Block.{checksum}
 use Rattle.block.proofs.check_values.Statement.{statement}
 use Rattle.block.proofs.check_values.Tie as tie
 

@@ -1,12 +1,11 @@
-use mathlib.Core.Path.{_∙_}
-use native.Mathlib.Omega.{arith}
-use denote.Ref.{now}
-use Rattle.block.proofs.Writing.{sum-next, sum-done}
-use borrow.Author.Needs.{needs}
 -- `block::checksum_of` meets its contract. The invariant: the sum so far, XORed with the bytes left, is the checksum.
 use Prim.Native.Nat.{_-_, _≤_}
-use mathlib.Core.Path.{_≡_}
+use native.Mathlib.Omega.{arith}
+use mathlib.Core.Path.{_∙_, _≡_}
+use borrow.Author.Needs.{needs}
+use denote.Ref.{now}
 use lib.ListN.{length, drop}
+use Rattle.block.proofs.Writing.{sum-next, sum-done}
 use Rattle.block.specs.Block.{xorFrom, checksum}
 use Rattle.block.proofs.checksum_of.Statement.{statement}
 use Rattle.block.proofs.checksum_of.Tie as tie

@@ -1,16 +1,14 @@
+-- `block::find_start` meets its contract. The invariant: the run of short pulses just before the place, and no start so far.
 use Prim.Native.Nat.{_-_, _<_}
+use native.Mathlib.Omega.{arith}
 use mathlib.Core.Path.{sym, ap, _∙_}
 use mathlib.Core.Logic.{⊎-elim}
-use native.Mathlib.Omega.{arith}
-use denote.Ref.{now}
-use lib.ListN.{length-map}
-use Rattle.pulse.specs.declared.Class.the-variants.{Short}
-use Rattle.pulse.specs.Pulse.{classOf, same}
-use Rattle.pulse.proofs.PulseLaws.{class-at}
 use borrow.Author.Needs.{needs}
--- `block::find_start` meets its contract. The invariant: the run of short pulses just before the place, and no start so far.
-use lib.ListN.{length}
-use Rattle.pulse.specs.Pulse.{classes}
+use denote.Ref.{now}
+use lib.ListN.{length-map, length}
+use Rattle.pulse.specs.declared.Class.the-variants.{Short}
+use Rattle.pulse.specs.Pulse.{classOf, same, classes}
+use Rattle.pulse.proofs.PulseLaws.{class-at}
 use Rattle.block.proofs.Searching.{Searching, begun, ended, one-more, over, few, other-byte, found}
 use Rattle.block.proofs.find_start.Statement.{statement}
 use Rattle.block.proofs.find_start.Tie as tie

@@ -1,14 +1,12 @@
-use native.Mathlib.Omega.{arith}
-use mathlib.Core.Path.{sym, ap, _∙_}
-use mathlib.Core.Bool.{not}
-use denote.Ref.{now}
-use Rattle.lists.proofs.LoopLaws.{first-here, first-passed, first-over}
-use borrow.Author.Needs.{needs}
 -- `block::first_miscounted` meets its contract. The invariant: the search from place i on finds what the whole search finds.
 use Prim.Native.Nat.{_-_, _≤_}
-use mathlib.Core.Path.{_≡_}
+use native.Mathlib.Omega.{arith}
+use mathlib.Core.Path.{sym, ap, _∙_, _≡_}
+use mathlib.Core.Bool.{not}
+use borrow.Author.Needs.{needs}
+use denote.Ref.{now}
+use Rattle.lists.proofs.LoopLaws.{first-here, first-passed, first-over, firstLeft}
 use Rattle.lists.specs.Places.{firstFrom}
-use Rattle.lists.proofs.LoopLaws.{firstLeft}
 use Rattle.pulse.specs.Pulse.{classes}
 use Rattle.block.specs.Reading.{isMiscounted}
 use Rattle.block.proofs.first_miscounted.Statement.{statement}

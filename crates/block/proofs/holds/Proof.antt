@@ -1,7 +1,7 @@
 -- `block::holds` meets its contract, by what was read.
 use mathlib.Core.Path.{sym, ap, _∙_}
-use Rattle.byte.specs.Byte.{isGood}
 use borrow.Author.Needs.{needs}
+use Rattle.byte.specs.Byte.{isGood}
 use Rattle.block.proofs.holds.Statement.{statement}
 use Rattle.block.proofs.holds.Tie as tie
 

@@ -1,9 +1,9 @@
 -- `block::is_counted` meets its contract: copy one's byte decides, and copy two's where that is another.
 use native.Mathlib.Omega.{arith}
 use mathlib.Core.Path.{sym, _∙_}
+use borrow.Author.Needs.{needs}
 use lib.Dec.{lit<}
 use Rattle.block.proofs.Countdowns.{row-at, counted-one, counted-two}
-use borrow.Author.Needs.{needs}
 use Rattle.block.proofs.is_counted.Statement.{statement}
 use Rattle.block.proofs.is_counted.Tie as tie
 

@@ -1,12 +1,9 @@
-use native.Mathlib.Omega.{arith}
-use Rattle.block.proofs.Writing.{BytesPut, bytes-begun, bytes-next, bytes-done}
-use borrow.Author.Needs.{needs}
 -- `block::put_bytes` meets its contract. The invariant: the bytes left, put after those that are there, give the whole.
-use Prim.Native.Nat.{_+_, _-_, _*_, _≤_}
-use lib.ListN.{length, drop}
-use Rattle.lists.proofs.LoopLaws.{Putting}
-use Rattle.pulse.specs.Pulse.{pulses}
-use Rattle.block.specs.Block.{bytesClasses}
+use Prim.Native.Nat.{_-_, _≤_}
+use native.Mathlib.Omega.{arith}
+use borrow.Author.Needs.{needs}
+use lib.ListN.{length}
+use Rattle.block.proofs.Writing.{BytesPut, bytes-begun, bytes-next, bytes-done}
 use Rattle.block.proofs.put_bytes.Statement.{statement}
 use Rattle.block.proofs.put_bytes.Tie as tie
 

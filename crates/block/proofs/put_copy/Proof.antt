@@ -1,10 +1,10 @@
 -- `block::put_copy` meets its contract: countdown, payload, checksum and trailer are stored one after the other.
+use native.Mathlib.Omega.{arith}
+use mathlib.Core.Path.{sym}
+use borrow.Author.Needs.{needs}
 use denote.Ref.{now}
 use Rattle.block.proofs.Writing.{copy-put}
-use mathlib.Core.Path.{sym}
-use native.Mathlib.Omega.{arith}
 use Rattle.block.proofs.Countdowns.{length-row, row-countdown}
-use borrow.Author.Needs.{needs}
 use Rattle.block.proofs.put_copy.Statement.{statement}
 use Rattle.block.proofs.put_copy.Tie as tie
 

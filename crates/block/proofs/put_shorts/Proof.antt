@@ -1,13 +1,10 @@
-use denote.Ref.{now}
-use native.Mathlib.Omega.{arith}
-use Rattle.block.proofs.Writing.{ShortsPut, shorts-begun, shorts-next, shorts-done}
-use borrow.Author.Needs.{needs}
 -- `block::put_shorts` meets its contract. The invariant: the short pulses left, put after those that are there, give the whole.
-use Prim.Native.Nat.{_+_, _-_, _≤_}
-use lib.ListN.{replicate}
-use Rattle.lists.proofs.LoopLaws.{Putting}
-use Rattle.pulse.specs.declared.Class.the-variants.{Short}
+use Prim.Native.Nat.{_-_, _≤_}
+use native.Mathlib.Omega.{arith}
+use borrow.Author.Needs.{needs}
+use denote.Ref.{now}
 use Rattle.pulse.specs.Pulse.{pulses}
+use Rattle.block.proofs.Writing.{ShortsPut, shorts-begun, shorts-next, shorts-done}
 use Rattle.block.proofs.put_shorts.Statement.{statement}
 use Rattle.block.proofs.put_shorts.Tie as tie
 

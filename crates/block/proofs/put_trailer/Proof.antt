@@ -1,12 +1,11 @@
 -- `block::put_trailer` meets its contract: the long pulse is stored, and the short ones after it.
+use native.Mathlib.Omega.{arith}
 use mathlib.Core.Path.{ap, _∙_}
+use borrow.Author.Needs.{needs}
 use denote.Ref.{now}
 use lib.ListN.{length, length-set}
 use lib.Seq.{length-sets}
 use Rattle.block.proofs.Writing.{trailer-put}
-use lib.ListN.{length-set}
-use native.Mathlib.Omega.{arith}
-use borrow.Author.Needs.{needs}
 use Rattle.block.proofs.put_trailer.Statement.{statement}
 use Rattle.block.proofs.put_trailer.Tie as tie
 

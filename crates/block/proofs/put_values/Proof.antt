@@ -1,16 +1,13 @@
+-- `block::put_values` meets its contract. The invariant: the values left, put after those that are there, give the whole.
+use Prim.Native.Nat.{_+_, _-_, _≤_}
 use native.Mathlib.Omega.{arith}
 use mathlib.Core.Path.{refl, sym, ap, _∙_}
 use mathlib.Core.List.{_∷_}
-use denote.Ref.{now}
-use Prim.Native.Nat.{_+_, _-_, _≤_}
-use Rattle.lists.proofs.LoopLaws.{put-begun, put-one, put-done, table-begun, table-next, table-over}
-use Rattle.block.specs.Reading.{valueOrZero}
 use borrow.Author.Needs.{needs}
--- `block::put_values` meets its contract. The invariant: the values left, put after those that are there, give the whole.
-use Prim.Native.Nat.{_-_, _≤_}
-use Rattle.lists.proofs.LoopLaws.{Putting, tableLeft}
+use denote.Ref.{now}
+use Rattle.lists.proofs.LoopLaws.{put-begun, put-one, put-done, table-begun, table-next, table-over, Putting, tableLeft}
 use Rattle.pulse.specs.Pulse.{classes}
-use Rattle.block.specs.Reading.{valueAt, valuesAt}
+use Rattle.block.specs.Reading.{valueOrZero, valueAt, valuesAt}
 use Rattle.block.proofs.put_values.Statement.{statement}
 use Rattle.block.proofs.put_values.Tie as tie
 

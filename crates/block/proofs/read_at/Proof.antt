@@ -1,7 +1,7 @@
 -- `block::read_at` meets its contract: each answer is the outcome's, by what the parts of the reader found.
+use borrow.Author.Needs.{needs}
 use denote.Ref.{now}
 use Rattle.block.proofs.Answers.{cut-short, miscounted, lost-byte, wrong-sum, sound}
-use borrow.Author.Needs.{needs}
 use Rattle.block.proofs.read_at.Statement.{statement}
 use Rattle.block.proofs.read_at.Tie as tie
 

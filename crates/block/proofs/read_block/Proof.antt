@@ -1,13 +1,13 @@
 -- `block::read_block` meets its contract: refusals 1, 2 and 3, and else what is read at the start.
 use native.Mathlib.Omega.{arith}
 use mathlib.Core.Path.{sym, ap, _∙_}
+use borrow.Author.Needs.{needs}
 use denote.Ref.{now}
 use Rattle.pulse.specs.Pulse.{fixed, classes}
 use Rattle.block.specs.Reading.{startOf}
 use Rattle.block.specs.Checks.{foundAt}
 use Rattle.block.proofs.BlockLaws.{size-right}
 use Rattle.block.proofs.Answers.{wrong-size, no-room, no-start, start-within, started}
-use borrow.Author.Needs.{needs}
 use Rattle.block.proofs.read_block.Statement.{statement}
 use Rattle.block.proofs.read_block.Tie as tie
 

@@ -1,7 +1,6 @@
 -- `block::repaired` meets its contract, by whether copy one's byte is good.
-use mathlib.Core.Path.{sym, _∙_}
-use Rattle.block.specs.Reading.{placeAt}
 use borrow.Author.Needs.{needs}
+use Rattle.block.specs.Reading.{placeAt}
 use Rattle.block.proofs.repaired.Statement.{statement}
 use Rattle.block.proofs.repaired.Tie as tie
 

@@ -1,11 +1,11 @@
 -- `block::write_block` meets its contract: refusals 1, 14 and 2, and else the leader and the two copies, stored one after the other.
 use native.Mathlib.Omega.{arith}
 use mathlib.Core.Path.{sym, _∙_}
+use borrow.Author.Needs.{needs}
 use denote.Ref.{now}
 use lib.ListN.{length}
 use Rattle.block.proofs.BlockLaws.{size-right, leader-right}
 use Rattle.block.proofs.Writing.{wrong-size, wrong-leader, no-room, whole}
-use borrow.Author.Needs.{needs}
 use Rattle.block.proofs.write_block.Statement.{statement}
 use Rattle.block.proofs.write_block.Tie as tie
 

@@ -1,18 +1,19 @@
 -- `byte::put_bits` meets its contract. The invariant: what the loop has put, and the bits left to put after it, are the eight bits.
-use Prim.Native.Nat.{_-_}
+use Prim.Native.Nat.{_-_, _≤_}
 use native.Mathlib.Omega.{arith}
-use Rattle.byte.proofs.Stores.{Putting, begun, next, done}
+use denote.Ref.{now}
+use Rattle.byte.proofs.Stores.{BitsPut, begun, next, done}
 use Rattle.byte.proofs.put_bits.Statement.{statement}
 use Rattle.byte.proofs.put_bits.Tie as tie
 
 abbrev Inv-loop : tie.InvT-loop
-Inv-loop out₀ at b rest₀ i₀ out rest i = Putting out₀ at b out rest i
+Inv-loop out₀ at b rest₀ i₀ out rest i = (i ≤ 8) × BitsPut out₀ at b out rest i
 
 abbrev μ-loop : tie.MeasureT-loop
 μ-loop out₀ at b rest₀ i₀ out rest i = 8 - i
 
 loop-holds : tie.Need-loop-holds Inv-loop μ-loop
-loop-holds c = begun _ _ _
+loop-holds c = let a = c .before .args in (omega arith, begun (now (a .out)) (a .at) (a .b))
 
 mul-put-bit : tie.Need-mul-put-bit Inv-loop μ-loop
 mul-put-bit c = omega arith
@@ -32,13 +33,17 @@ loop-less c = omega arith
 loop-again : tie.Need-loop-again Inv-loop μ-loop
 loop-again c =
     let h = c .before .before .before .before .before in
-    next (h .loop .inv) _ (c .before .before .before .before .loop-test .taken) (c .before .before .put-bit .ensures)
+    let a = h .before .before .args in
+    (omega arith, next (now (a .out)) (a .at) (a .b) (h .loop .rest) (h .loop .inv .1) (c .before .before .before .before .loop-test .taken) (c .before .before .put-bit .ensures))
 
 same-length : tie.Need-same-length Inv-loop μ-loop
 same-length c = omega arith
 
 returns : tie.Need-returns Inv-loop μ-loop
-returns c = done (c .before .loop .inv) (c .loop-test .left)
+returns c =
+    let h = c .before in
+    let a = h .before .before .args in
+    done (now (a .out)) (a .at) (a .b) (h .loop .rest) (h .loop .inv .1) (c .loop-test .left)
 
 pub put-bits-spec : {M : Type 1} → statement M
 put-bits-spec =

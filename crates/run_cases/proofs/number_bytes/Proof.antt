@@ -1,10 +1,9 @@
-use lib.ListN.{length-set}
-use native.Mathlib.Omega.{arith}
-use borrow.Author.Needs.{needs}
 -- `run_cases::number_bytes` stays within the slice and keeps its length.
 use Prim.Native.Nat.{_-_}
+use native.Mathlib.Omega.{arith}
 use mathlib.Core.Path.{_≡_}
-use lib.ListN.{length}
+use borrow.Author.Needs.{needs}
+use lib.ListN.{length-set, length}
 use Rattle.run_cases.proofs.number_bytes.Statement.{statement}
 use Rattle.run_cases.proofs.number_bytes.Tie as tie
 
