@@ -4,10 +4,20 @@ use mathlib.Core.Path.{sym, _∙_}
 use borrow.Author.Needs.{needs}
 use denote.Ref.{now}
 use lib.ListN.{length}
-use Rattle.block.proofs.BlockLaws.{size-right, leader-right}
+use Rattle.block.proofs.BlockLaws.{Within, size-right, leader-right}
 use Rattle.block.proofs.Writing.{wrong-size, wrong-leader, no-room, whole}
 use Rattle.block.proofs.write_block.Statement.{statement}
 use Rattle.block.proofs.write_block.Tie as tie
+
+-- payload and leader are small, so that the sums below fit
+sized : (c : tie.Else2) → let a = c .before .before .before .before .before .before .args in Within 1 8192 (length (now (a .payload))) × Within 64 65535 (a .leader)
+sized c =
+    let l = c .before in
+    let w = l .before .before in
+    let a = w .before .before .before .args in (
+      size-right (length (now (a .payload))) (sym (w .wrong-size .ensures) ∙ l .before .if1 .left),
+      leader-right (a .leader) (sym (l .wrong-leader .ensures) ∙ c .if2 .left),
+    )
 
 wrong-size-requires : tie.Need-wrong-size-requires
 wrong-size-requires c κs = search needs
@@ -39,54 +49,19 @@ add-copy : tie.Need-add-copy
 add-copy c = search needs
 
 mul-copy : tie.Need-mul-copy
-mul-copy c =
-    let e = c .before in
-    let l = e .before in
-    let w = l .before in
-    let a = w .before .before .before .args in
-    let n = size-right (length (now (a .payload))) (sym (w .wrong-size .ensures) ∙ l .if1 .left) in
-    let k = leader-right (a .leader) (sym (e .wrong-leader .ensures) ∙ c .if2 .left) in
-    omega arith
+mul-copy c = let s = sized c in omega arith
 
 add-two : tie.Need-add-two
-add-two c =
-    let e = c .before in
-    let l = e .before in
-    let w = l .before in
-    let a = w .before .before .before .args in
-    let n = size-right (length (now (a .payload))) (sym (w .wrong-size .ensures) ∙ l .if1 .left) in
-    let k = leader-right (a .leader) (sym (e .wrong-leader .ensures) ∙ c .if2 .left) in
-    omega arith
+add-two c = let s = sized c in omega arith
 
 add-two-2 : tie.Need-add-two-2
-add-two-2 c =
-    let e = c .before in
-    let l = e .before in
-    let w = l .before in
-    let a = w .before .before .before .args in
-    let n = size-right (length (now (a .payload))) (sym (w .wrong-size .ensures) ∙ l .if1 .left) in
-    let k = leader-right (a .leader) (sym (e .wrong-leader .ensures) ∙ c .if2 .left) in
-    omega arith
+add-two-2 c = let s = sized c in omega arith
 
 add-count : tie.Need-add-count
-add-count c =
-    let e = c .before in
-    let l = e .before in
-    let w = l .before in
-    let a = w .before .before .before .args in
-    let n = size-right (length (now (a .payload))) (sym (w .wrong-size .ensures) ∙ l .if1 .left) in
-    let k = leader-right (a .leader) (sym (e .wrong-leader .ensures) ∙ c .if2 .left) in
-    omega arith
+add-count c = let s = sized c in omega arith
 
 add-count-2 : tie.Need-add-count-2
-add-count-2 c =
-    let e = c .before in
-    let l = e .before in
-    let w = l .before in
-    let a = w .before .before .before .args in
-    let n = size-right (length (now (a .payload))) (sym (w .wrong-size .ensures) ∙ l .if1 .left) in
-    let k = leader-right (a .leader) (sym (e .wrong-leader .ensures) ∙ c .if2 .left) in
-    omega arith
+add-count-2 c = let s = sized c in omega arith
 
 at-requires-3 : tie.Need-at-requires-3
 at-requires-3 c κs = search needs
