@@ -16,29 +16,29 @@ use Rattle.byte.specs.Byte.{byteClasses}
 -- ---- The layout
 
 -- a value XORed with each byte in turn
-unfoldable pub xorFrom : ℕ → List ℕ → ℕ
+unfoldable pub xorFrom : (x : ℕ) (bytes : List ℕ) → ℕ
 xorFrom x [] = x
 xorFrom x (b ∷ bs) = xorFrom (bitXor x b) bs
 
 -- $00 XORed with each payload byte
-abbrev pub checksum : List ℕ → ℕ
+abbrev pub checksum : (payload : List ℕ) → ℕ
 checksum payload = xorFrom 0x00 payload
 
 -- the first countdown byte of copy one, copy 0 here, and of copy two, copy 1
-abbrev pub firstByte : ℕ → ℕ
+abbrev pub firstByte : (copy : ℕ) → ℕ
 firstByte zero = 0x89
 firstByte (suc copy) = 0x09
 
 -- $89, $88 .. $81 in copy one; $09, $08 .. $01 in copy two
-unfoldable pub countdown : ℕ → List ℕ
+unfoldable pub countdown : (copy : ℕ) → List ℕ
 countdown copy = tabulate (λ i. firstByte copy - i) 9 0
 
 -- the n + 10 bytes of a copy: countdown, payload, checksum
-unfoldable pub copyBytes : ℕ → List ℕ → List ℕ
+unfoldable pub copyBytes : (copy : ℕ) (payload : List ℕ) → List ℕ
 copyBytes copy payload = countdown copy ++ (payload ++ (checksum payload ∷ []))
 
 -- bytes one after the other
-unfoldable pub bytesClasses : List ℕ → List Class
+unfoldable pub bytesClasses : (bytes : List ℕ) → List Class
 bytesClasses [] = []
 bytesClasses (b ∷ bs) = byteClasses b ++ bytesClasses bs
 
@@ -46,28 +46,28 @@ bytesClasses (b ∷ bs) = byteClasses b ++ bytesClasses bs
 unfoldable pub trailer : List Class
 trailer = Long ∷ replicate 60 Short
 
-unfoldable pub copyClasses : ℕ → List ℕ → List Class
+unfoldable pub copyClasses : (copy : ℕ) (payload : List ℕ) → List Class
 copyClasses copy payload = bytesClasses (copyBytes copy payload) ++ trailer
 
 -- a leader of k short pulses, copy one, copy two
-unfoldable pub blockClasses : ℕ → List ℕ → List Class
+unfoldable pub blockClasses : (k : ℕ) (payload : List ℕ) → List Class
 blockClasses k payload = replicate k Short ++ (copyClasses 0 payload ++ copyClasses 1 payload)
 
-abbrev pub blockPulses : ℕ → List ℕ → List ℕ
+abbrev pub blockPulses : (k : ℕ) (payload : List ℕ) → List ℕ
 blockPulses k payload = pulses (blockClasses k payload)
 
 -- ---- The writer
 
 -- n is 0 or over 8,192
-abbrev pub wrongSize : ℕ → Bool
+abbrev pub wrongSize : (n : ℕ) → Bool
 wrongSize n = eqb n 0 || ltb 8192 n
 
 -- K is under 64 or over 65,535
-abbrev pub wrongLeader : ℕ → Bool
+abbrev pub wrongLeader : (k : ℕ) → Bool
 wrongLeader k = ltb k 64 || ltb 65535 k
 
 -- what is written into `room` places: refusals 1, 14, 2 in this order, else the block
-unfoldable pub writeBlock : ℕ → ℕ → List ℕ → Outcome (List ℕ)
+unfoldable pub writeBlock : (room k : ℕ) (payload : List ℕ) → Outcome (List ℕ)
 writeBlock room k payload =
     cond (wrongSize (length payload)) (refuse WrongSize 0)
     (cond (wrongLeader k) (refuse WrongLeader 0)

@@ -16,10 +16,10 @@ use Rattle.block.specs.Reading.{copyTwo, endOf}
 -- Its copy one starts at place k.
 
 -- byte place i of copy one, and of copy two
-abbrev pub oneAt : ℕ → ℕ → List Class → List Class
+abbrev pub oneAt : (k i : ℕ) (cs : List Class) → List Class
 oneAt k i cs = twenty cs (k + 20 * i)
 
-abbrev pub twoAt : ℕ → ℕ → ℕ → List Class → List Class
+abbrev pub twoAt : (k n i : ℕ) (cs : List Class) → List Class
 twoAt k n i cs = twenty cs (copyTwo n k + 20 * i)
 
 -- each pulse outside the copies has the class it was written in: in the leader, in the 61 pulses between the copies, in those after them
@@ -29,7 +29,7 @@ pub record Outside (k n : ℕ) (w cs : List Class) : Type 0 where
   pub after : part cs (endOf n k) 61 ≡ part w (endOf n k) 61
 
 -- at a byte place, in one of the two copies all twenty have the class they were written in, and in the other at most three have another
-abbrev pub OneSound : List Class → List Class → List Class → List Class → Type 0
+abbrev pub OneSound : (w₁ c₁ w₂ c₂ : List Class) → Type 0
 OneSound w₁ c₁ w₂ c₂ = ((c₁ ≡ w₁) × (differ w₂ c₂ ≤ 3)) ⊎ ((c₂ ≡ w₂) × (differ w₁ c₁ ≤ 3))
 
 pub record DamagedClasses (k n : ℕ) (w cs : List Class) : Type 0 where

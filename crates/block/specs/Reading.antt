@@ -27,7 +27,7 @@ allShort [] = true
 allShort (c ∷ cs) = same c Short && allShort cs
 
 -- 16 short pulses just before p, all at or after `from`, and the 20 pulses from p on a good byte $89
-unfoldable pub isStart : List Class → ℕ → ℕ → Bool
+unfoldable pub isStart : (cs : List Class) (from p : ℕ) → Bool
 isStart cs from p = leb (from + 16) p && allShort (part cs (p - 16) 16) && isGood (firstByte 0) (byteAt cs p)
 
 -- the same in words
@@ -37,40 +37,40 @@ pub record Start (cs : List Class) (from p : ℕ) : Type 0 where
   pub first : byteAt cs p ≡ Good 0x89
 
 -- the start is the smallest such place
-unfoldable pub startOf : List Class → ℕ → Option ℕ
+unfoldable pub startOf : (cs : List Class) (from : ℕ) → Option ℕ
 startOf cs from = firstFrom (isStart cs from) (length cs) 0
 
 -- ---- Rule 2: the copies
 
 -- copy one, from p on, and copy two have 20(n + 10) pulses each, with 61 between them that are not read
-abbrev pub copyTwo : ℕ → ℕ → ℕ
+abbrev pub copyTwo : (n p : ℕ) → ℕ
 copyTwo n p = p + 20 * (n + 10) + 61
 
 -- the place after copy two
-abbrev pub endOf : ℕ → ℕ → ℕ
+abbrev pub endOf : (n p : ℕ) → ℕ
 endOf n p = copyTwo n p + 20 * (n + 10)
 
 -- ---- Rule 3: the countdown
 
 -- at countdown place i, copy one (from `one` on) or copy two (from `two` on) holds a good byte with its own expected value
-unfoldable pub counted : List Class → ℕ → ℕ → ℕ → Bool
+unfoldable pub counted : (cs : List Class) (one two i : ℕ) → Bool
 counted cs one two i = isGood (firstByte 0 - i) (byteAt cs (one + 20 * i)) || isGood (firstByte 1 - i) (byteAt cs (two + 20 * i))
 
-abbrev pub isMiscounted : List Class → ℕ → ℕ → ℕ → Bool
+abbrev pub isMiscounted : (cs : List Class) (one two i : ℕ) → Bool
 isMiscounted cs one two i = not (counted cs one two i)
 
 -- ---- Rule 4: the values
 
 -- copy one's byte where it is good, else copy two's
-abbrev pub repaired : ByteRead → ByteRead → ByteRead
-repaired (Good v) other = Good v
-repaired Bad other = other
+abbrev pub repaired : (one two : ByteRead) → ByteRead
+repaired (Good v) two = Good v
+repaired Bad two = two
 
 -- at payload place i, and at place n for the checksum; bad where the place is lost
-unfoldable pub placeAt : List Class → ℕ → ℕ → ℕ → ByteRead
+unfoldable pub placeAt : (cs : List Class) (one two i : ℕ) → ByteRead
 placeAt cs one two i = repaired (byteAt cs (one + 20 * (9 + i))) (byteAt cs (two + 20 * (9 + i)))
 
-abbrev pub isLost : List Class → ℕ → ℕ → ℕ → Bool
+abbrev pub isLost : (cs : List Class) (one two i : ℕ) → Bool
 isLost cs one two i = isBad (placeAt cs one two i)
 
 -- the value of a good byte; a bad one has none, and stands as 0
@@ -78,16 +78,16 @@ abbrev pub valueOrZero : ByteRead → ℕ
 valueOrZero (Good v) = v
 valueOrZero Bad = 0
 
-abbrev pub valueAt : List Class → ℕ → ℕ → ℕ → ℕ
+abbrev pub valueAt : (cs : List Class) (one two i : ℕ) → ℕ
 valueAt cs one two i = valueOrZero (placeAt cs one two i)
 
 -- the n payload values
-abbrev pub valuesAt : List Class → ℕ → ℕ → ℕ → List ℕ
+abbrev pub valuesAt : (cs : List Class) (one two n : ℕ) → List ℕ
 valuesAt cs one two n = tabulate (valueAt cs one two) n 0
 
 -- ---- Rule 5: the checksum
 
-abbrev pub sumHolds : List Class → ℕ → ℕ → ℕ → Bool
+abbrev pub sumHolds : (cs : List Class) (one two n : ℕ) → Bool
 sumHolds cs one two n = eqb (checksum (valuesAt cs one two n)) (valueAt cs one two n)
 
 -- ---- The whole block
@@ -104,7 +104,7 @@ abbrev pub payloadOf : Block → List ℕ
 payloadOf b = b .payload
 
 -- rules 3 to 5, for copies from `one` and from `two` on: refusals 5, 6, 7 in this order
-unfoldable pub readCopies : List Class → ℕ → ℕ → ℕ → Outcome Block
+unfoldable pub readCopies : (cs : List Class) (n one two : ℕ) → Outcome Block
 readCopies cs n one two =
     refuseAt WrongCountdown (firstFrom (isMiscounted cs one two) 9 0)
     (refuseAt LostByte (firstFrom (isLost cs one two) (n + 1) 0)
@@ -113,20 +113,20 @@ readCopies cs n one two =
     (refuse WrongChecksum n)))
 
 -- rules 2 to 5, for the start p: refusal 4, then those of the copies
-unfoldable pub readAt : List Class → ℕ → ℕ → Outcome Block
+unfoldable pub readAt : (cs : List Class) (n p : ℕ) → Outcome Block
 readAt cs n p = let copies = readCopies cs n p (copyTwo n p) in cond (ltb (length cs) (endOf n p)) (refuse CutShort p) copies
 
 -- for a start that was looked for: refusal 3, then those at the start
-unfoldable pub readFound : List Class → ℕ → Option ℕ → Outcome Block
+unfoldable pub readFound : (cs : List Class) (n : ℕ) (start : Option ℕ) → Outcome Block
 readFound cs n none = refuse NoStart 0
 readFound cs n (some p) = readAt cs n p
 
 -- all five rules
-unfoldable pub readFrom : List Class → ℕ → ℕ → Outcome Block
+unfoldable pub readFrom : (cs : List Class) (from n : ℕ) → Outcome Block
 readFrom cs from n = readFound cs n (startOf cs from)
 
 -- the reader with `room` places for the payload: refusals 1 and 2 come first
-unfoldable pub readBlock : List Class → ℕ → ℕ → ℕ → Outcome Block
+unfoldable pub readBlock : (cs : List Class) (room from n : ℕ) → Outcome Block
 readBlock cs room from n =
     cond (wrongSize n) (refuse WrongSize 0)
     (cond (ltb room n) (refuse NoRoom 0)
