@@ -14,9 +14,9 @@ use Rattle.pulse.specs.declared.Class.the-variants.{Short, Noise}
 use Rattle.pulse.specs.Pulse.{same}
 use Rattle.pulse.proofs.PulseLaws.{same-eq}
 use Rattle.byte.specs.Byte.{byteAt, isGood}
-use Rattle.byte.proofs.ByteLaws.{byteAt-short}
+use Rattle.byte.proofs.ByteLaws.{good-is, byteAt-short}
 use Rattle.block.specs.Reading.{isStart, Start, startOf}
-use Rattle.block.proofs.StartLaws.{good-is, start-passes, start-fails, start-shorts, shorts-before}
+use Rattle.block.proofs.StartLaws.{start-passes, start-fails, start-shorts, shorts-before}
 
 -- At `at`: `run` short pulses stand just before it, all at or after `from`, and no more; no start so far.
 pub record Searching (cs : List Class) (from at run : ℕ) : Type 0 where

@@ -6,7 +6,7 @@ use mathlib.Core.Path.{_≡_, refl, sym, ap, ap₂, _∙_}
 use mathlib.Core.Bool.{Bool, true, false, _&&_}
 use mathlib.Core.List.{List, [], _∷_}
 use mathlib.Core.Option.{none, some}
-use borrow.Author.Tests.{le-leb, leb-true, eqb-true}
+use borrow.Author.Tests.{le-leb, leb-true}
 use lib.Dec.{leb}
 use lib.ListN.{length, getD, replicate, length-take, length-drop, getD-replicate}
 use lib.Seq.{ext-getD}
@@ -18,18 +18,13 @@ use Rattle.pulse.specs.declared.Class.{Class}
 use Rattle.pulse.specs.declared.Class.the-variants.{Short, Noise}
 use Rattle.pulse.specs.Pulse.{same}
 use Rattle.pulse.proofs.PulseLaws.{same-eq}
-use Rattle.byte.specs.declared.ByteRead.{ByteRead}
-use Rattle.byte.specs.declared.ByteRead.the-variants.{Good, Bad}
+use Rattle.byte.specs.declared.ByteRead.the-variants.{Good}
 use Rattle.byte.specs.Byte.{byteAt, isGood}
-use Rattle.byte.proofs.ByteLaws.{byteAt-fewer, byteAt-short}
+use Rattle.byte.proofs.ByteLaws.{good-is, byteAt-fewer, byteAt-short}
 use Rattle.block.specs.Block.{firstByte}
 use Rattle.block.specs.Reading.{allShort, isStart, Start, startOf}
 
 -- ---- Tests
-
-pub good-is : (v : ℕ) (r : ByteRead) → isGood v r ≡ true → r ≡ Good v
-good-is v (Good w) e = ap Good (eqb-true w v e)
-good-is v Bad e = absurd (let z : _≡_ {A = ℕ} 0 1 = cc in omega arith)
 
 -- a test that cannot hold fails
 not-holds : (t : Bool) → (t ≡ true → ⊥) → t ≡ false

@@ -9,9 +9,9 @@ use mathlib.Core.Logic.{inl, inr}
 use mathlib.Core.Bool.{true, cond, _&&_}
 use mathlib.Core.List.{List, [], _∷_, _++_, append-assoc, map-append}
 use mathlib.Core.Option.{Option, none, some}
-use borrow.Author.Tests.{le-leb, not-true, not-false, ne-eqb}
+use borrow.Author.Tests.{le-leb, not-true, not-false, eqb-true, ne-eqb}
 use lib.Count.{ones}
-use lib.Dec.{T, eqb, eqb→eq, lit<, lit≤}
+use lib.Dec.{lit<, lit≤}
 use lib.ListN.{length, take, drop, getD, length-map, length-take, length-drop}
 use lib.Seq.{drop-cons, take-take, take-at, drop-at, length-take-le, getD-take, getD-drop}
 use Rattle.lists.specs.Places.{firstFrom, tabulate}
@@ -31,13 +31,13 @@ use Rattle.byte.proofs.CodingLaws.{coded-append, length-byte, value-lt}
 
 -- ---- A byte as written is read
 
-good-is : (v : ℕ) (r : ByteRead) → T (isGood v r) → r ≡ Good v
-good-is v (Good w) t = ap Good (eqb→eq w v t)
-good-is v Bad t = absurd t
+pub good-is : (v : ℕ) (r : ByteRead) → isGood v r ≡ true → r ≡ Good v
+good-is v (Good w) e = ap Good (eqb-true w v e)
+good-is v Bad e = absurd (let z : _≡_ {A = ℕ} 0 1 = cc in omega arith)
 
 pub read-written : (b : ℕ) → b < 256 → readByte (byteClasses b) ≡ Good b
 unfolding readByte firstFrom tabulate pairAt pairOf same valueOf byteClasses coded bits parityBit isOdd ones
-read-written b h = good-is b (readByte (byteClasses b)) (every-at (λ v. isGood v (readByte (byteClasses v))) 256 tt b h)
+read-written b h = good-is b (readByte (byteClasses b)) (every-at (λ v. isGood v (readByte (byteClasses v))) 256 refl b h)
 
 -- ---- Sound pairs
 

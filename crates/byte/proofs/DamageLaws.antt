@@ -6,8 +6,9 @@ use mathlib.Core.Path.{_≡_, refl, sym, ap, _∙_}
 use mathlib.Core.Logic.{_⊎_, inl, inr}
 use mathlib.Core.Bool.{true}
 use mathlib.Core.List.{List, [], _∷_, _++_}
+use borrow.Author.Tests.{eqb-true}
 use lib.Count.{ones}
-use lib.Dec.{eqb, eqb→eq}
+use lib.Dec.{eqb}
 use lib.ListN.{length, length-take, length-drop}
 use lib.Seq.{take-all}
 use Rattle.lists.proofs.Table.{every-at}
@@ -57,7 +58,7 @@ nineBits b = bits 8 b ++ (parityBit b ∷ [])
 
 nine-odd : (b : ℕ) → b < 256 → count (nineBits b) % 2 ≡ 1
 unfolding count bits parityBit isOdd ones
-nine-odd b h = eqb→eq (count (nineBits b) % 2) 1 (every-at (λ v. eqb (count (nineBits v) % 2) 1) 256 tt b h)
+nine-odd b h = eqb-true (count (nineBits b) % 2) 1 (every-at (λ v. eqb (count (nineBits v) % 2) 1) 256 refl b h)
 
 pub differ-byte : (b v : ℕ) → b < 256 → v < 256 → differ (byteClasses b) (byteClasses v) ≤ 3 → b ≡ v
 unfolding byteClasses bits differ same
