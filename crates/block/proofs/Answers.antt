@@ -27,14 +27,14 @@ use Rattle.block.specs.declared.Check.the-variants.{Sound, LostAt, Wrong
 use Rattle.block.specs.declared.Found.{Found}
 use Rattle.block.specs.declared.Found.the-variants.{At, Nothing}
 use Rattle.block.specs.Block.{wrongSize}
-use Rattle.block.specs.Reading.{isStart, startOf, copyTwo, endOf, isMiscounted, isLost, valueAt, valuesAt, sumHolds, Block, extentOf, payloadOf, readCopies, readAt, readFound, readFrom, readBlock, blockAnswer}
+use Rattle.block.specs.Reading.{isStart, startOf, copyTwo, endOf, isMiscounted, isLost, valueAt, valuesAt, sumHolds, BlockRead, extentOf, payloadOf, blockAt, readCopies, readAt, readFound, readFrom, readBlock, blockAnswer}
 use Rattle.block.specs.Checks.{foundAt, checkOf}
 
 -- the answer r and the buffer afterwards are those of an outcome
-abbrev pub Met : Outcome Block → List ℕ → BlockAnswer → List ℕ → Type 0
+abbrev pub Met : Outcome BlockRead → List ℕ → BlockAnswer → List ℕ → Type 0
 Met o out r out′ = (blockAnswer r ≡ mapped extentOf o) × (out′ ≡ putAt out 0 (puts (mapped payloadOf o)))
 
-pub met-refused : (o : Outcome Block) (out : List ℕ) (reason : Reason) {place : ℕ} {r : BlockAnswer} → o ≡ refuse reason place → r ≡ Refused (refusalAt reason place)
+pub met-refused : (o : Outcome BlockRead) (out : List ℕ) (reason : Reason) {place : ℕ} {r : BlockAnswer} → o ≡ refuse reason place → r ≡ Refused (refusalAt reason place)
     → Met o out r out
 met-refused o out reason e q = (ap blockAnswer q ∙ told-refused reason e extentOf refl, puts-refused reason out (mapped-refused reason e payloadOf))
 
@@ -62,37 +62,37 @@ module _ (t : Thresholds) (strip : List ℕ) (n p : ℕ) (out : List ℕ) where
   cs = classes t strip
 
   abbrev q : ℕ
-  q = copyTwo n p
+  q = copyTwo p n
 
-  pub cut-short : {r : BlockAnswer} → length strip < endOf n p → r ≡ Refused (refusalAt CutShort p) → Met (readAt cs n p) out r out
+  pub cut-short : {r : BlockAnswer} → length strip < endOf p n → r ≡ Refused (refusalAt CutShort p) → Met (readAt cs p n) out r out
   unfolding readAt
-  cut-short h = met-refused (readAt cs n p) out CutShort (rw (length-map strip (classOf t), lt-ltb (length strip) (endOf n p) h))
+  cut-short h = met-refused (readAt cs p n) out CutShort (rw (length-map strip (classOf t), lt-ltb (length strip) (endOf p n) h))
 
-  module _ (long : endOf n p ≤ length strip) {f : Found} (e : foundAt f ≡ firstFrom (isMiscounted cs p q) 9 0) where
-    pub miscounted : {i : ℕ} {r : BlockAnswer} → f ≡ At i → r ≡ Refused (refusalAt WrongCountdown i) → Met (readAt cs n p) out r out
+  module _ (long : endOf p n ≤ length strip) {f : Found} (e : foundAt f ≡ firstFrom (isMiscounted cs p q) 9 0) where
+    pub miscounted : {i : ℕ} {r : BlockAnswer} → f ≡ At i → r ≡ Refused (refusalAt WrongCountdown i) → Met (readAt cs p n) out r out
     unfolding readAt readCopies
-    miscounted g = met-refused (readAt cs n p) out WrongCountdown (rw (length-map strip (classOf t), le-ltb (length strip) (endOf n p) long, ← e, g))
+    miscounted g = met-refused (readAt cs p n) out WrongCountdown (rw (length-map strip (classOf t), le-ltb (length strip) (endOf p n) long, ← e, g))
 
     module _ (g : f ≡ Nothing) {c : Check} (h : c ≡ checkOf (firstFrom (isLost cs p q) (n + 1) 0) (sumHolds cs p q n)) where
-      pub lost-byte : {i : ℕ} {r : BlockAnswer} → c ≡ LostAt i → r ≡ Refused (refusalAt LostByte i) → Met (readAt cs n p) out r out
+      pub lost-byte : {i : ℕ} {r : BlockAnswer} → c ≡ LostAt i → r ≡ Refused (refusalAt LostByte i) → Met (readAt cs p n) out r out
       unfolding readAt readCopies
-      lost-byte k = met-refused (readAt cs n p) out LostByte
-          (rw (length-map strip (classOf t), le-ltb (length strip) (endOf n p) long, ← e, g, check-lost (firstFrom (isLost cs p q) (n + 1) 0) (sumHolds cs p q n) (sym h ∙ k)))
+      lost-byte k = met-refused (readAt cs p n) out LostByte
+          (rw (length-map strip (classOf t), le-ltb (length strip) (endOf p n) long, ← e, g, check-lost (firstFrom (isLost cs p q) (n + 1) 0) (sumHolds cs p q n) (sym h ∙ k)))
 
-      pub wrong-sum : {r : BlockAnswer} → c ≡ WrongSum → r ≡ Refused (refusalAt WrongChecksum n) → Met (readAt cs n p) out r out
+      pub wrong-sum : {r : BlockAnswer} → c ≡ WrongSum → r ≡ Refused (refusalAt WrongChecksum n) → Met (readAt cs p n) out r out
       unfolding readAt readCopies
       wrong-sum k =
           let w = check-wrong (firstFrom (isLost cs p q) (n + 1) 0) (sumHolds cs p q n) (sym h ∙ k) in
-          met-refused (readAt cs n p) out WrongChecksum (rw (length-map strip (classOf t), le-ltb (length strip) (endOf n p) long, ← e, g, w .0, w .1))
+          met-refused (readAt cs p n) out WrongChecksum (rw (length-map strip (classOf t), le-ltb (length strip) (endOf p n) long, ← e, g, w .0, w .1))
 
       pub sound : {out′ : List ℕ} → n ≤ length out → c ≡ Sound → out′ ≡ sets out 0 (valuesAt cs p q n)
-          → Met (readAt cs n p) out (Accepted (record { n = n; start = p; end = endOf n p })) out′
+          → Met (readAt cs p n) out (Accepted (record { n = n; start = p; end = endOf p n })) out′
       unfolding readAt readCopies
       sound room k s =
           let w = check-sound (firstFrom (isLost cs p q) (n + 1) 0) (sumHolds cs p q n) (sym h ∙ k) in
           let l : 0 + length (valuesAt cs p q n) ≡ n = zero-add _ ∙ length-tabulate (valueAt cs p q) n 0 in
-          let a : readAt cs n p ≡ accepted (record { extent = record { n = n; start = p; end = endOf n p }; payload = valuesAt cs p q n }) =
-          rw (length-map strip (classOf t), le-ltb (length strip) (endOf n p) long, ← e, g, w .0, w .1)
+          let a : readAt cs p n ≡ accepted (blockAt p n (valuesAt cs p q n)) =
+          rw (length-map strip (classOf t), le-ltb (length strip) (endOf p n) long, ← e, g, w .0, w .1)
           in
           (rw a, rw a (s ∙ put-room out 0 (valuesAt cs p q n) (rw l room)))
 
@@ -105,7 +105,7 @@ start-within t strip from {p} e =
     omega (arith, r .high, length-map strip (classOf t))
 
 module _ (cs : List Class) (from n : ℕ) (out : List ℕ) where
-  abbrev outcome : Outcome Block
+  abbrev outcome : Outcome BlockRead
   outcome = readBlock cs (length out) from n
 
   pub wrong-size : {r : BlockAnswer} → wrongSize n ≡ true → r ≡ Refused (refusalAt WrongSize 0) → Met outcome out r out
@@ -122,6 +122,6 @@ module _ (cs : List Class) (from n : ℕ) (out : List ℕ) where
       unfolding readBlock readFrom readFound
       no-start g = met-refused outcome out NoStart (rw (size, le-ltb (length out) n room, ← e, g))
 
-      pub started : {p : ℕ} (r : BlockAnswer) {out′ : List ℕ} → f ≡ At p → Met (readAt cs n p) out r out′ → Met outcome out r out′
+      pub started : {p : ℕ} (r : BlockAnswer) {out′ : List ℕ} → f ≡ At p → Met (readAt cs p n) out r out′ → Met outcome out r out′
       unfolding readBlock readFrom readFound
       started r g m = rw (size, le-ltb (length out) n room, ← e, g) m

@@ -3,9 +3,9 @@ use Prim.Native.Nat.{ℕ, zero, suc, _+_, _-_, _*_, _≤_, _<_}
 use native.Mathlib.Nat.{zero-add}
 use native.Mathlib.Decide.{decLt}
 use native.Mathlib.Omega.{arith}
-use mathlib.Core.Path.{_≡_, refl, sym, ap, _∙_}
+use mathlib.Core.Path.{_≡_, refl, ap, _∙_}
 use mathlib.Core.Bool.{false}
-use mathlib.Core.List.{List, [], _∷_, _++_, append-assoc, append-nil}
+use mathlib.Core.List.{List, [], _∷_, _++_, append-assoc}
 use borrow.Author.Tests.{ltb-false, eqb-false}
 use lib.Bits.{bitXor, xor-lt}
 use lib.Dec.{eqb, ltb, lit<}
@@ -20,7 +20,7 @@ use Rattle.pulse.specs.declared.Class.the-variants.{Short}
 use Rattle.pulse.specs.Pulse.{writtenAs}
 use Rattle.byte.specs.Byte.{byteClasses, twenty}
 use Rattle.byte.proofs.CodingLaws.{length-byte}
-use Rattle.block.specs.Block.{xorFrom, checksum, firstByte, countdown, copyBytes, bytesClasses, trailer, copyClasses, blockClasses, blockPulses, wrongSize, wrongLeader}
+use Rattle.block.specs.Block.{xorFrom, checksum, firstByte, countdown, copyBytes, bytesClasses, copyClasses, copyPulses, trailer, blockClasses, blockPulses, wrongSize, wrongLeader}
 use Rattle.block.specs.Reading.{copyTwo}
 use Rattle.block.specs.Damage.{oneAt, twoAt}
 
@@ -112,21 +112,21 @@ below-copy copy payload below =
 -- ---- copyClasses
 
 module _ (copy : ℕ) (payload : List ℕ) where
-  pub length-copy : length (copyClasses copy payload) ≡ 20 * (length payload + 10) + 61
-  unfolding copyClasses trailer
-  length-copy = simp (length-append, length-bytes, length-copyBytes) (omega arith)
+  pub length-copy : length (copyClasses copy payload) ≡ copyPulses (length payload)
+  unfolding copyClasses
+  length-copy = length-bytes (copyBytes copy payload) ∙ ap (λ n. 20 * n) (length-copyBytes copy payload)
 
   -- byte place i of a copy
   pub copy-at : (rest : List Class) (i : ℕ) → i < length payload + 10
       → twenty (copyClasses copy payload ++ rest) (20 * i) ≡ byteClasses (getD (copyBytes copy payload) i 0)
   unfolding copyClasses
-  copy-at rest i h = rw append-assoc (bytes-at (copyBytes copy payload) (trailer ++ rest) i (rw (length-copyBytes copy payload) h))
+  copy-at rest i h = bytes-at (copyBytes copy payload) rest i (rw (length-copyBytes copy payload) h)
 
 -- ---- blockClasses
 
 module _ (k : ℕ) (payload : List ℕ) where
   pub length-block : length (blockClasses k payload) ≡ k + 40 * (length payload + 10) + 122
-  unfolding blockClasses
+  unfolding blockClasses trailer
   length-block = simp (length-append, length-copy, length-replicate) (omega arith)
 
   pub length-blockPulses : length (blockPulses k payload) ≡ k + 40 * (length payload + 10) + 122
@@ -137,20 +137,25 @@ module _ (k : ℕ) (payload : List ℕ) where
   leader-at = take-at (replicate k Short) _ k (length-replicate k Short)
 
   -- byte place i of copy one, and of copy two
+  abbrev fromTwo : List Class
+  fromTwo = copyClasses 1 payload ++ trailer
+
+  abbrev fromOne : List Class
+  fromOne = copyClasses 0 payload ++ (trailer ++ fromTwo)
+
   pub one-at : (i : ℕ) → i < length payload + 10 → oneAt k i (blockClasses k payload) ≡ byteClasses (getD (copyBytes 0 payload) i 0)
   unfolding blockClasses
-  one-at i h =
-      part-past (replicate k Short) (copyClasses 0 payload ++ copyClasses 1 payload) k (20 * i) 20 (length-replicate k Short)
-      ∙ copy-at 0 payload (copyClasses 1 payload) i h
+  one-at i h = part-past (replicate k Short) fromOne k (20 * i) 20 (length-replicate k Short) ∙ copy-at 0 payload (trailer ++ fromTwo) i h
 
   pub two-at : (i : ℕ) → i < length payload + 10 → twoAt k (length payload) i (blockClasses k payload) ≡ byteClasses (getD (copyBytes 1 payload) i 0)
-  unfolding blockClasses
+  unfolding blockClasses trailer
   two-at i h =
-      let m = 20 * (length payload + 10) + 61 in
-      let e : copyTwo (length payload) k + 20 * i ≡ k + (m + 20 * i) = omega arith in
-      rw e (part-past (replicate k Short) (copyClasses 0 payload ++ copyClasses 1 payload) k (m + 20 * i) 20 (length-replicate k Short)
-      ∙ part-past (copyClasses 0 payload) (copyClasses 1 payload) m (20 * i) 20 (length-copy 0 payload)
-      ∙ ap (λ (cs : List Class). twenty cs (20 * i)) (sym (append-nil (copyClasses 1 payload))) ∙ copy-at 1 payload [] i h)
+      let m = copyPulses (length payload) in
+      let e : copyTwo k (length payload) + 20 * i ≡ k + (m + (61 + 20 * i)) = omega arith in
+      rw e (part-past (replicate k Short) fromOne k (m + (61 + 20 * i)) 20 (length-replicate k Short)
+      ∙ part-past (copyClasses 0 payload) (trailer ++ fromTwo) m (61 + 20 * i) 20 (length-copy 0 payload)
+      ∙ part-past trailer fromTwo 61 (20 * i) 20 refl
+      ∙ copy-at 1 payload trailer i h)
 
 -- ---- What the writer takes
 

@@ -34,10 +34,10 @@ module _ {cs : List Class} {one two n sum i : ℕ} (u : Checking cs one two n su
   pub lost : (holds : Bool) → placeAt cs one two i ≡ Bad → LostAt i ≡ checkOf (firstFrom (isLost cs one two) (n + 1) 0) holds
   lost holds e =
       ap (λ o. checkOf o holds)
-      (sym (first-here (isLost cs one two) (n + 1) i (let few = u .few in omega arith) (ap isBad e)) ∙ u .left)
+      (sym (first-here (isLost cs one two) (n + 1) i (omega arith) (ap isBad e)) ∙ u .left)
 
   passed : {v : ℕ} → placeAt cs one two i ≡ Good v → firstLeft (isLost cs one two) (n + 1) (i + 1) ≡ firstFrom (isLost cs one two) (n + 1) 0
-  passed e = first-passed (isLost cs one two) (n + 1) i (let few = u .few in omega arith) (ap isBad e) ∙ u .left
+  passed e = first-passed (isLost cs one two) (n + 1) i (omega arith) (ap isBad e) ∙ u .left
 
   pub next : {v : ℕ} → i < n → placeAt cs one two i ≡ Good v → Checking cs one two n (bitXor sum v) (i + 1)
   unfolding xorFrom
@@ -53,7 +53,7 @@ module _ {cs : List Class} {one two n sum i : ℕ} (u : Checking cs one two n su
   -- after the last payload byte, the checksum's place decides
   module _ {v : ℕ} (last : n ≤ i) (e : placeAt cs one two n ≡ Good v) where
     ends : i ≡ n
-    ends = let few = u .few in omega arith
+    ends = omega arith
 
     none-lost : none ≡ firstFrom (isLost cs one two) (n + 1) 0
     none-lost =

@@ -31,7 +31,7 @@ use Rattle.byte.specs.Damage.{differ}
 use Rattle.byte.proofs.ByteLaws.{byteAt-written}
 use Rattle.byte.proofs.DamageLaws.{byteAt-differ}
 use Rattle.block.specs.Block.{checksum, copyBytes, blockClasses, blockPulses, wrongSize, wrongLeader, writeBlock}
-use Rattle.block.specs.Reading.{startOf, copyTwo, endOf, counted, repaired, placeAt, isLost, valueAt, valuesAt, Block, readCopies, readAt, readFound, readFrom, readBlock}
+use Rattle.block.specs.Reading.{startOf, copyTwo, endOf, counted, repaired, placeAt, isLost, valueAt, valuesAt, blockAt, readCopies, readAt, readFound, readFrom, readBlock}
 use Rattle.block.specs.Damage.{OneSound, DamagedClasses, Damaged}
 use Rattle.block.proofs.BlockLaws.{copy-countdown, copy-value, below-copy, length-blockPulses, leader-right, leader-at, one-at, two-at}
 use Rattle.block.proofs.StartLaws.{start-short}
@@ -64,10 +64,6 @@ module _ (cs : List Class) (one two a : ℕ) (small : a < 256) where
 
 -- ---- On classes
 
--- the block that is read with its start at a place
-abbrev pub blockAt : ℕ → ℕ → List ℕ → Block
-blockAt n start payload = record { extent = record { n = n; start = start; end = endOf n start }; payload = payload }
-
 -- The strip cs holds, from place o on, what lies within the damage of a block with leader k and n payload bytes.
 module _ (cs : List Class) (o k : ℕ) (payload : List ℕ) {n : ℕ} (long : length payload ≡ n) (below : Below 256 payload)
     (fits : o + (k + 40 * (n + 10) + 122) ≤ length cs)
@@ -79,15 +75,15 @@ module _ (cs : List Class) (o k : ℕ) (payload : List ℕ) {n : ℕ} (long : le
   one = o + k
 
   abbrev two : ℕ
-  two = copyTwo n one
+  two = copyTwo one n
 
   sound : (i : ℕ) → i < n + 10
       → OneSound (byteClasses (getD (copyBytes 0 payload) i 0)) (twenty cs (one + 20 * i)) (byteClasses (getD (copyBytes 1 payload) i 0)) (twenty cs (two + 20 * i))
   sound i h =
       let e₁ : one + 20 * i ≡ o + (k + 20 * i) = omega arith in
-      let e₂ : two + 20 * i ≡ o + (copyTwo n k + 20 * i) = omega arith in
-      let w₂ : twenty (blockClasses k payload) (copyTwo n k + 20 * i) ≡ byteClasses (getD (copyBytes 1 payload) i 0) = rw (← long) (two-at k payload i (omega arith)) in
-      rw (e₁, e₂, ← (part-part cs o size (k + 20 * i) 20 (omega arith)), ← (part-part cs o size (copyTwo n k + 20 * i) 20 (omega arith)))
+      let e₂ : two + 20 * i ≡ o + (copyTwo k n + 20 * i) = omega arith in
+      let w₂ : twenty (blockClasses k payload) (copyTwo k n + 20 * i) ≡ byteClasses (getD (copyBytes 1 payload) i 0) = rw (← long) (two-at k payload i (omega arith)) in
+      rw (e₁, e₂, ← (part-part cs o size (k + 20 * i) 20 (omega arith)), ← (part-part cs o size (copyTwo k n + 20 * i) 20 (omega arith)))
       (rw (one-at k payload i (omega arith), w₂) at (d .places i h))
 
   first-good : byteAt cs one ≡ Good 0x89
@@ -122,11 +118,11 @@ module _ (cs : List Class) (o k : ℕ) (payload : List ℕ) {n : ℕ} (long : le
       ∙ tabulate-is (valueAt cs one two) payload 0 (λ i h. rw (zero-add, place-ok i (omega arith)) (List·getD-append payload (checksum payload ∷ []) 0 i h))
 
   -- rules 2 to 5, at the end of the leader
-  pub read-there : readAt cs n one ≡ accepted (blockAt n one payload)
+  pub read-there : readAt cs one n ≡ accepted (blockAt one n payload)
   unfolding readAt readCopies
   read-there =
       rw (
-        le-ltb (length cs) (endOf n one) (omega arith),
+        le-ltb (length cs) (endOf one n) (omega arith),
         first-none (λ i. not (counted cs one two i)) 9 0 (λ i _ h. rw (counted-ok i (omega arith))),
         first-none (isLost cs one two) (n + 1) 0 (λ i _ h. rw (place-ok i (omega arith))),
         values-ok,
@@ -136,9 +132,9 @@ module _ (cs : List Class) (o k : ℕ) (payload : List ℕ) {n : ℕ} (long : le
       )
 
   -- rule 1, where all between `from` and the block is short
-  module _ (from : ℕ) (far : from + 17 ≤ one) (before : (i : ℕ) → from < i → i < o → getD cs i Noise ≡ Short) where
+  module _ (from : ℕ) (lead : 16 ≤ k) (far : from + 16 ≤ one) (before : (i : ℕ) → from < i → i < o → getD cs i Noise ≡ Short) where
     pub start-found : startOf cs from ≡ some one
-    start-found = start-short cs from one far short first-good
+    start-found = start-short cs from one far (λ i a b. (let e : o + (i - o) ≡ i = omega arith in rw e at (leader-short (i - o) (omega arith)))) short first-good
       where
         short : (i : ℕ) → from < i → i < one → getD cs i Noise ≡ Short
         short i a b = elim (decLt i o) [
@@ -146,7 +142,7 @@ module _ (cs : List Class) (o k : ℕ) (payload : List ℕ) {n : ℕ} (long : le
           | no h ↦ (let e : o + (i - o) ≡ i = omega arith in rw e at (leader-short (i - o) (omega arith)))
         ]
 
-    pub survives : readFrom cs from n ≡ accepted (blockAt n one payload)
+    pub survives : readFrom cs from n ≡ accepted (blockAt one n payload)
     unfolding readFrom readFound
     survives = rw start-found read-there
 
@@ -154,7 +150,7 @@ module _ (cs : List Class) (o k : ℕ) (payload : List ℕ) {n : ℕ} (long : le
 
 -- the same, of a strip of pulses that are classed with the fixed thresholds
 module _ (strip : List ℕ) (o k : ℕ) (payload : List ℕ) {n : ℕ} (long : length payload ≡ n) (below : Below 256 payload)
-    (d : Damaged k payload (part strip o (length (blockPulses k payload)))) (from : ℕ) (far : from + 17 ≤ o + k)
+    (d : Damaged k payload (part strip o (length (blockPulses k payload)))) (from : ℕ) (lead : 16 ≤ k) (far : from + 16 ≤ o + k)
     (before : (i : ℕ) → from < i → i < o → classOf fixed (getD strip i 0) ≡ Short) where
   size-block : length (blockPulses k payload) ≡ k + 40 * (n + 10) + 122
   size-block = rw (← long) (length-blockPulses k payload)
@@ -165,12 +161,12 @@ module _ (strip : List ℕ) (o k : ℕ) (payload : List ℕ) {n : ℕ} (long : l
   kept : DamagedClasses k n (blockClasses k payload) (part (classes fixed strip) o (k + 40 * (n + 10) + 122))
   kept = rw (part-map (classOf fixed) strip o (k + 40 * (n + 10) + 122), ← size-block) (rw (classes-pulses (blockClasses k payload), long) at (d .kept))
 
-  pub read-damaged : readFrom (classes fixed strip) from n ≡ accepted (blockAt n (o + k) payload)
+  pub read-damaged : readFrom (classes fixed strip) from n ≡ accepted (blockAt (o + k) n payload)
   read-damaged =
-      survives (classes fixed strip) o k payload long below (rw (length-map strip (classOf fixed)) fits) kept from far
+      survives (classes fixed strip) o k payload long below (rw (length-map strip (classOf fixed)) fits) kept from lead far
       (λ i a b. class-at fixed strip i (omega (arith, fits)) ∙ before i a b)
 
-  pub readBlock-damaged : (room : ℕ) → wrongSize n ≡ false → n ≤ room → readBlock (classes fixed strip) room from n ≡ accepted (blockAt n (o + k) payload)
+  pub readBlock-damaged : (room : ℕ) → wrongSize n ≡ false → n ≤ room → readBlock (classes fixed strip) room from n ≡ accepted (blockAt (o + k) n payload)
   unfolding readBlock
   readBlock-damaged room size enough = rw (size, le-ltb room n enough) read-damaged
 
@@ -185,7 +181,7 @@ damaged-self : (k n : ℕ) (w : List Class) → DamagedClasses k n w w
 damaged-self k n w = record {
   outside = record { leader = refl; between = refl; after = refl };
   first = refl;
-  places = λ i h. inl (refl, rw (differ-self (twenty w (copyTwo n k + 20 * i))) (lit≤ tt));
+  places = λ i h. inl (refl, rw (differ-self (twenty w (copyTwo k n + 20 * i))) (lit≤ tt));
 }
 
 written-lt : (c : Class) → writtenAs c < 2 ^ 32
@@ -215,11 +211,11 @@ written room k payload strip e =
 -- what the writer put is read, from place 0 on
 pub readBlock-written : (room k : ℕ) (payload strip out : List ℕ) → writeBlock room k payload ≡ accepted strip → Below 256 payload → length out ≡ room
     → (enough : ℕ) → length payload ≤ enough
-    → readBlock (classes fixed (putAt out 0 strip)) enough 0 (length payload) ≡ accepted (blockAt (length payload) k payload)
+    → readBlock (classes fixed (putAt out 0 strip)) enough 0 (length payload) ≡ accepted (blockAt k (length payload) payload)
 readBlock-written room k payload strip out e below long enough h =
     let w = written room k payload strip e in
     let there = part-put out 0 (blockPulses k payload) (omega arith) in
     rw (← (w .3))
-    (readBlock-damaged (putAt out 0 (blockPulses k payload)) 0 k payload refl below (rw there (undamaged k payload)) 0 (omega arith) (λ i a b. absurd (omega arith))
+    (readBlock-damaged (putAt out 0 (blockPulses k payload)) 0 k payload refl below (rw there (undamaged k payload)) 0 (omega arith) (omega arith) (λ i a b. absurd (omega arith))
     enough (w .0) h
-    ∙ ap (λ start. accepted (blockAt (length payload) start payload)) (zero-add k))
+    ∙ ap (λ start. accepted (blockAt start (length payload) payload)) (zero-add k))

@@ -124,10 +124,11 @@ shorts-before cs p far within short =
     getD-part cs (p - 16) 16 i Noise l ∙ short (p - 16 + i) (omega arith) (omega arith) ∙ sym (getD-replicate 16 i Short Noise l))
 
 -- then it is the start: no byte begins with a short pulse
-pub start-short : (cs : List Class) (from p : ℕ) → from + 17 ≤ p → ((i : ℕ) → from < i → i < p → getD cs i Noise ≡ Short) → byteAt cs p ≡ Good 0x89
+pub start-short : (cs : List Class) (from p : ℕ) → from + 16 ≤ p → ((i : ℕ) → p - 16 ≤ i → i < p → getD cs i Noise ≡ Short)
+    → ((i : ℕ) → from < i → i < p → getD cs i Noise ≡ Short) → byteAt cs p ≡ Good 0x89
     → startOf cs from ≡ some p
-start-short cs from p far short first =
+start-short cs from p far near short first =
     let within : p + 20 ≤ length cs = good-within cs p 0x89 first in
     start-some
-    (record { far = omega arith; shorts = shorts-before cs p (omega arith) (omega arith) (λ i a b. short i (omega arith) b); first = first })
+    (record { far = omega arith; shorts = shorts-before cs p (omega arith) (omega arith) near; first = first })
     (λ i h s. (let bad = rw (s .first) at (byteAt-short cs i (short i (omega (arith, s .far)) h)) in let z : _≡_ {A = ℕ} 0 1 = cc in omega arith))

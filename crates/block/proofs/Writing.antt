@@ -3,13 +3,13 @@ use Prim.Native.Nat.{ℕ, suc, _+_, _-_, _*_, _≤_, _<_}
 use native.Mathlib.Nat.{zero-add}
 use native.Mathlib.Numerals.{add-one}
 use native.Mathlib.Omega.{arith}
-use mathlib.Core.Path.{_≡_, refl, sym, ap, ap₂, _∙_}
+use mathlib.Core.Path.{_≡_, refl, sym, ap, _∙_}
 use mathlib.Core.Bool.{true, false}
-use mathlib.Core.List.{List, [], _∷_, _++_, append-nil, append-assoc, map-append}
+use mathlib.Core.List.{List, [], _++_, append-nil, map-append}
 use borrow.Author.Tests.{lt-ltb, le-ltb}
 use lib.Bits.{bitXor}
-use lib.ListN.{length, drop, getD, set, replicate, length-replicate, length-append, length-map, drop-of-length-le}
-use lib.Seq.{sets, length-sets, drop-cons}
+use lib.ListN.{length, drop, getD, set, replicate, length-replicate, length-map, drop-of-length-le}
+use lib.Seq.{sets, drop-cons}
 use Rattle.lists.specs.Buffer.{putAt}
 use Rattle.lists.proofs.BufferLaws.{put-room}
 use Rattle.lists.proofs.LoopLaws.{Putting, put-begun, put-next, put-one, put-done}
@@ -22,10 +22,10 @@ use Rattle.refusal.specs.Refusal.{accepted, refuse, refusalAt, mapped, puts, pu
 use Rattle.refusal.proofs.OutcomeLaws.{told-refused, puts-refused}
 use Rattle.pulse.specs.declared.Class.the-variants.{Short}
 use Rattle.pulse.specs.Pulse.{writtenAs, pulses}
-use Rattle.pulse.proofs.PulseLaws.{sets-pulses}
+use Rattle.pulse.proofs.PulseLaws.{put-pulses}
 use Rattle.byte.specs.Byte.{byteClasses, bytePulses}
 use Rattle.byte.proofs.CodingLaws.{length-byte}
-use Rattle.block.specs.Block.{xorFrom, checksum, countdown, copyBytes, bytesClasses, trailer, copyClasses, blockClasses, blockPulses, wrongSize, wrongLeader, writeBlock}
+use Rattle.block.specs.Block.{xorFrom, checksum, countdown, copyBytes, bytesClasses, copyClasses, copyPulses, trailer, blockClasses, blockPulses, wrongSize, wrongLeader, writeBlock}
 use Rattle.block.proofs.BlockLaws.{bytes-append, length-bytes, length-countdown, length-copy, length-blockPulses}
 
 -- ---- The checksum
@@ -92,34 +92,26 @@ module _ (out₀ : List ℕ) (at : ℕ) (bytes : List ℕ) where
     unfolding bytesClasses
     bytes-done h = put-done u (ap (λ bs. pulses (bytesClasses bs)) (drop-of-length-le bytes h))
 
--- ---- A copy: countdown, payload, checksum, trailer
+-- ---- A copy: countdown, payload, checksum
 
-pub copy-put : (out : List ℕ) (at copy : ℕ) (payload : List ℕ) {row one two three four : List ℕ} {sum : ℕ}
-    → at + 20 * (length payload + 10) + 61 ≤ length out → row ≡ countdown copy → sum ≡ checksum payload
+pub copy-put : (out : List ℕ) (at copy : ℕ) (payload : List ℕ) {row one two three : List ℕ} {sum : ℕ}
+    → at + copyPulses (length payload) ≤ length out → row ≡ countdown copy → sum ≡ checksum payload
     → one ≡ sets out at (pulses (bytesClasses row)) → two ≡ sets one (at + 180) (pulses (bytesClasses payload))
     → three ≡ putAt two (at + 180 + 20 * length payload) (bytePulses sum)
-    → four ≡ sets three (at + 180 + 20 * length payload + 20) (pulses trailer)
-    → four ≡ sets out at (pulses (copyClasses copy payload))
+    → three ≡ sets out at (pulses (copyClasses copy payload))
 unfolding copyClasses copyBytes bytesClasses
-copy-put out at copy payload {row} {one} {two} {three} {four} {sum} room r s e f g t =
+copy-put out at copy payload {row} {one} {two} {three} {sum} room r s e f g =
     let n = length payload in
     let xs = bytesClasses (countdown copy) in
     let ys = bytesClasses payload in
-    let zs = byteClasses sum in
-    let lx : length xs ≡ 180 = length-bytes (countdown copy) ∙ ap (λ k. 20 * k) (length-countdown copy) in
-    let lxy : length (xs ++ ys) ≡ 180 + 20 * n = length-append xs ys ∙ ap₂ (λ j k. j + k) lx (length-bytes payload) in
-    let lxyz : length (xs ++ ys ++ zs) ≡ 180 + 20 * n + 20 = length-append (xs ++ ys) zs ∙ ap₂ (λ j k. j + k) lxy (length-byte sum) in
-    let p : at + 180 + 20 * n ≡ at + (180 + 20 * n) = omega arith in
-    let q : at + 180 + 20 * n + 20 ≡ at + (180 + 20 * n + 20) = omega arith in
-    let f′ : two ≡ sets out at (pulses (xs ++ ys)) = rw (f, e, r) (sets-pulses out at 180 xs ys lx) in
-    let l : length two ≡ length out = ap length f′ ∙ length-sets out at (pulses (xs ++ ys)) in
-    let g′ : three ≡ sets two (at + 180 + 20 * n) (bytePulses sum) = put-stored two (at + 180 + 20 * n) sum (omega arith) g in
-    let g″ : three ≡ sets out at (pulses (xs ++ ys ++ zs)) = rw (g′, f′, p) (sets-pulses out at (180 + 20 * n) (xs ++ ys) zs lxy) in
-    let t′ : four ≡ sets out at (pulses (xs ++ ys ++ zs ++ trailer)) = rw (t, g″, q) (sets-pulses out at (180 + 20 * n + 20) (xs ++ ys ++ zs) trailer lxyz) in
-    let w : bytesClasses (countdown copy ++ (payload ++ (checksum payload ∷ []))) ≡ xs ++ ys ++ zs =
-    rw (bytes-append, bytes-append, ← s, append-nil, append-assoc)
-    in
-    t′ ∙ ap (λ cs. sets out at (pulses (cs ++ trailer))) (sym w)
+    let zs = byteClasses (checksum payload) in
+    let w : copyClasses copy payload ≡ xs ++ (ys ++ zs) = rw (bytes-append, bytes-append, append-nil) in
+    let u₀ = put-begun out at at (pulses (copyClasses copy payload)) (pulses (xs ++ (ys ++ zs))) refl (ap pulses (sym w)) in
+    let u₁ = put-pulses xs (ys ++ zs) u₀ (rw r at e) (length-bytes (countdown copy) ∙ ap (λ k. 20 * k) (length-countdown copy)) refl in
+    let u₂ = put-pulses ys zs u₁ f (length-bytes payload) refl in
+    let long = u₂ .long in
+    let u₃ = put-next u₂ (pulses zs) [] (sym (append-nil (pulses zs))) (put-stored two (at + 180 + 20 * n) (checksum payload) (omega arith) (rw s at g)) refl in
+    put-done u₃ refl
 
 -- ---- The block
 
@@ -142,11 +134,14 @@ module _ (out : List ℕ) (k : ℕ) (payload : List ℕ) where
     wrong-leader t = refused-as WrongLeader (rw (size, t))
 
     module _ (leader : wrongLeader k ≡ false) where
+      abbrev m : ℕ
+      m = copyPulses (length payload)
+
       abbrev two : ℕ
-      two = k + 20 * (length payload + 10) + 61
+      two = k + m + 61
 
       abbrev count : ℕ
-      count = two + 20 * (length payload + 10) + 61
+      count = two + m + 61
 
       length-count : length (blockPulses k payload) ≡ count
       length-count = length-blockPulses k payload ∙ (let z : k + 40 * (length payload + 10) + 122 ≡ count = omega arith in z)
@@ -155,21 +150,21 @@ module _ (out : List ℕ) (k : ℕ) (payload : List ℕ) where
       unfolding writeBlock
       no-room h = refused-as NoRoom (rw (size, leader, length-count, lt-ltb (length out) count h))
 
-      -- the leader, copy one, copy two
-      pub whole : {led one both : List ℕ} → count ≤ length out → led ≡ sets out 0 (pulses (replicate k Short))
-          → one ≡ sets led k (pulses (copyClasses 0 payload)) → both ≡ sets one two (pulses (copyClasses 1 payload))
-          → Written out k payload (Count count) both
-      unfolding writeBlock blockClasses
-      whole {led} {one} {both} room e f g =
+      -- the leader; copy one and its trailer; copy two and its trailer
+      pub whole : {led one oneEnd both bothEnd : List ℕ} → count ≤ length out → led ≡ sets out 0 (pulses (replicate k Short))
+          → one ≡ sets led k (pulses (copyClasses 0 payload)) → oneEnd ≡ sets one (k + m) (pulses trailer)
+          → both ≡ sets oneEnd two (pulses (copyClasses 1 payload)) → bothEnd ≡ sets both (two + m) (pulses trailer)
+          → Written out k payload (Count count) bothEnd
+      unfolding writeBlock blockClasses trailer
+      whole {led} {one} {oneEnd} {both} {bothEnd} room e f f′ g g′ =
           let ks = replicate k Short in
           let xs = copyClasses 0 payload in
           let ys = copyClasses 1 payload in
-          let z : 0 + k ≡ k = omega arith in
-          let q : two ≡ 0 + (k + (20 * (length payload + 10) + 61)) = omega arith in
-          let lx : length (ks ++ xs) ≡ k + (20 * (length payload + 10) + 61) =
-          length-append ks xs ∙ ap₂ (λ i j. i + j) (length-replicate k Short) (length-copy 0 payload)
-          in
-          let f′ : one ≡ sets out 0 (pulses (ks ++ xs)) = rw (f, e) (ap (λ i. sets (sets out 0 (pulses ks)) i (pulses xs)) (sym z) ∙ sets-pulses out 0 k ks xs (length-replicate k Short)) in
-          let g′ : both ≡ sets out 0 (pulses (ks ++ (xs ++ ys))) = rw (g, f′, q, ← append-assoc) (sets-pulses out 0 _ (ks ++ xs) ys lx) in
+          let u₀ = put-begun out 0 0 (blockPulses k payload) (blockPulses k payload) refl refl in
+          let u₁ = put-pulses ks (xs ++ (trailer ++ (ys ++ trailer))) u₀ e (length-replicate k Short) (sym (zero-add k)) in
+          let u₂ = put-pulses xs (trailer ++ (ys ++ trailer)) u₁ f (length-copy 0 payload) refl in
+          let u₃ = put-pulses trailer (ys ++ trailer) u₂ f′ refl refl in
+          let u₄ = put-pulses ys trailer u₃ g (length-copy 1 payload) refl in
+          let u₅ = put-next u₄ (pulses trailer) [] (sym (append-nil (pulses trailer))) g′ refl in
           let w : writeBlock (length out) k payload ≡ accepted (blockPulses k payload) = rw (size, leader, length-count, le-ltb (length out) count room) in
-          (rw w (ap accepted (sym length-count)), rw w (g′ ∙ put-room out 0 (blockPulses k payload) (rw (length-count, zero-add) room)))
+          (rw w (ap accepted (sym length-count)), rw w (put-done u₅ refl ∙ put-room out 0 (blockPulses k payload) (rw (length-count, zero-add) room)))

@@ -1,5 +1,5 @@
 -- Blocks as written (document 01, 'Blocks'), on the classes of pulses.
-use Prim.Native.Nat.{ℕ, zero, suc, _+_, _-_}
+use Prim.Native.Nat.{ℕ, zero, suc, _+_, _-_, _*_}
 use mathlib.Core.Bool.{Bool, cond, _||_}
 use mathlib.Core.List.{List, [], _∷_, _++_}
 use lib.Bits.{bitXor}
@@ -42,16 +42,20 @@ unfoldable pub bytesClasses : (bytes : List ℕ) → List Class
 bytesClasses [] = []
 bytesClasses (b ∷ bs) = byteClasses b ++ bytesClasses bs
 
--- one L and 60 S, after each copy
+unfoldable pub copyClasses : (copy : ℕ) (payload : List ℕ) → List Class
+copyClasses copy payload = bytesClasses (copyBytes copy payload)
+
+-- a copy of n payload bytes has n + 10 byte places
+abbrev pub copyPulses : (n : ℕ) → ℕ
+copyPulses n = 20 * (n + 10)
+
+-- one L and 60 S
 unfoldable pub trailer : List Class
 trailer = Long ∷ replicate 60 Short
 
-unfoldable pub copyClasses : (copy : ℕ) (payload : List ℕ) → List Class
-copyClasses copy payload = bytesClasses (copyBytes copy payload) ++ trailer
-
--- a leader of k short pulses, copy one, copy two
+-- a leader of k short pulses; copy one; one L and 60 S; copy two; one L and 60 S
 unfoldable pub blockClasses : (k : ℕ) (payload : List ℕ) → List Class
-blockClasses k payload = replicate k Short ++ (copyClasses 0 payload ++ copyClasses 1 payload)
+blockClasses k payload = replicate k Short ++ (copyClasses 0 payload ++ (trailer ++ (copyClasses 1 payload ++ trailer)))
 
 abbrev pub blockPulses : (k : ℕ) (payload : List ℕ) → List ℕ
 blockPulses k payload = pulses (blockClasses k payload)

@@ -8,7 +8,7 @@ use lib.Dec.{eqb, leb, ltb}
 use lib.ListN.{length, replicate}
 use Rattle.lists.specs.Places.{firstFrom, tabulate, part}
 use Rattle.refusal.specs.declared.Reason.the-variants.{WrongSize, NoRoom, NoStart, CutShort, WrongCountdown, LostByte, WrongChecksum}
-use Rattle.refusal.specs.Refusal.{Outcome, accepted, refuse, refuseAt, told}
+use Rattle.refusal.specs.Refusal.{Outcome, accepted, refuse, refuseFirst, told}
 use Rattle.pulse.specs.declared.Class.{Class}
 use Rattle.pulse.specs.declared.Class.the-variants.{Short}
 use Rattle.pulse.specs.Pulse.{same}
@@ -18,7 +18,7 @@ use Rattle.byte.specs.Byte.{byteAt, isGood, isBad}
 use Rattle.block.specs.declared.Extent.{Extent}
 use Rattle.block.specs.declared.BlockAnswer.{BlockAnswer}
 use Rattle.block.specs.declared.BlockAnswer.the-variants.{Accepted, Refused}
-use Rattle.block.specs.Block.{checksum, firstByte, wrongSize}
+use Rattle.block.specs.Block.{checksum, firstByte, copyPulses, wrongSize}
 
 -- ---- Rule 1: the start
 
@@ -42,13 +42,13 @@ startOf cs from = firstFrom (isStart cs from) (length cs) 0
 
 -- ---- Rule 2: the copies
 
--- copy one, from p on, and copy two have 20(n + 10) pulses each, with 61 between them that are not read
-abbrev pub copyTwo : (n p : ℕ) → ℕ
-copyTwo n p = p + 20 * (n + 10) + 61
+-- copy one is 20(n + 10) pulses from p on; copy two starts 20(n + 10) + 61 pulses after p and is as long
+abbrev pub copyTwo : (p n : ℕ) → ℕ
+copyTwo p n = p + copyPulses n + 61
 
 -- the place after copy two
-abbrev pub endOf : (n p : ℕ) → ℕ
-endOf n p = copyTwo n p + 20 * (n + 10)
+abbrev pub endOf : (p n : ℕ) → ℕ
+endOf p n = copyTwo p n + copyPulses n
 
 -- ---- Rule 3: the countdown
 
@@ -92,41 +92,44 @@ sumHolds cs one two n = eqb (checksum (valuesAt cs one two n)) (valueAt cs one t
 
 -- ---- The whole block
 
--- what an accepted block gives: n, the start and the end, which are answered, and the payload, which is put
-pub record Block : Type 0 where
+-- what an accepted block gives: n, the start p and the end, which are answered, and the payload, which is put
+pub record BlockRead : Type 0 where
   pub extent : Extent
   pub payload : List ℕ
 
-abbrev pub extentOf : Block → Extent
+abbrev pub extentOf : BlockRead → Extent
 extentOf b = b .extent
 
-abbrev pub payloadOf : Block → List ℕ
+abbrev pub payloadOf : BlockRead → List ℕ
 payloadOf b = b .payload
 
--- rules 3 to 5, for copies from `one` and from `two` on: refusals 5, 6, 7 in this order
-unfoldable pub readCopies : (cs : List Class) (n one two : ℕ) → Outcome Block
-readCopies cs n one two =
-    refuseAt WrongCountdown (firstFrom (isMiscounted cs one two) 9 0)
-    (refuseAt LostByte (firstFrom (isLost cs one two) (n + 1) 0)
-    (cond (sumHolds cs one two n)
-    (accepted (record { extent = record { n = n; start = one; end = two + 20 * (n + 10) }; payload = valuesAt cs one two n }))
+-- the block with its start at p
+abbrev pub blockAt : (p n : ℕ) (payload : List ℕ) → BlockRead
+blockAt p n payload = record { extent = record { n = n; start = p; end = endOf p n }; payload = payload }
+
+-- rules 3 to 5, for the start p: refusals 5, 6, 7 in this order
+unfoldable pub readCopies : (cs : List Class) (p n : ℕ) → Outcome BlockRead
+readCopies cs p n =
+    refuseFirst WrongCountdown (firstFrom (isMiscounted cs p (copyTwo p n)) 9 0)
+    (refuseFirst LostByte (firstFrom (isLost cs p (copyTwo p n)) (n + 1) 0)
+    (cond (sumHolds cs p (copyTwo p n) n) (accepted (blockAt p n (valuesAt cs p (copyTwo p n) n)))
     (refuse WrongChecksum n)))
 
--- rules 2 to 5, for the start p: refusal 4, then those of the copies
-unfoldable pub readAt : (cs : List Class) (n p : ℕ) → Outcome Block
-readAt cs n p = let copies = readCopies cs n p (copyTwo n p) in cond (ltb (length cs) (endOf n p)) (refuse CutShort p) copies
+-- rules 2 to 5, for the start p: refusal 4 comes first
+unfoldable pub readAt : (cs : List Class) (p n : ℕ) → Outcome BlockRead
+readAt cs p n = cond (ltb (length cs) (endOf p n)) (refuse CutShort p) (readCopies cs p n)
 
--- for a start that was looked for: refusal 3, then those at the start
-unfoldable pub readFound : (cs : List Class) (n : ℕ) (start : Option ℕ) → Outcome Block
-readFound cs n none = refuse NoStart 0
-readFound cs n (some p) = readAt cs n p
+-- for a start that was looked for: refusal 3 where there is none
+unfoldable pub readFound : (cs : List Class) (start : Option ℕ) (n : ℕ) → Outcome BlockRead
+readFound cs none n = refuse NoStart 0
+readFound cs (some p) n = readAt cs p n
 
 -- all five rules
-unfoldable pub readFrom : (cs : List Class) (from n : ℕ) → Outcome Block
-readFrom cs from n = readFound cs n (startOf cs from)
+unfoldable pub readFrom : (cs : List Class) (from n : ℕ) → Outcome BlockRead
+readFrom cs from n = readFound cs (startOf cs from) n
 
 -- the reader with `room` places for the payload: refusals 1 and 2 come first
-unfoldable pub readBlock : (cs : List Class) (room from n : ℕ) → Outcome Block
+unfoldable pub readBlock : (cs : List Class) (room from n : ℕ) → Outcome BlockRead
 readBlock cs room from n =
     cond (wrongSize n) (refuse WrongSize 0)
     (cond (ltb room n) (refuse NoRoom 0)

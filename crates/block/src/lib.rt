@@ -1,6 +1,6 @@
 // Blocks. A block carries n payload bytes, 1 to 8,192, and is recorded twice.
 //
-//   leader          copy one                       trailer    copy two                       trailer
+//   leader          copy one                       trailer     copy two                       trailer
 //   K short pulses  $89 .. $81, payload, checksum  L and 60 S  $09 .. $01, payload, checksum  L and 60 S
 //
 // The checksum is $00 XORed with each payload byte. A copy has n + 10 byte places of twenty pulses each.
@@ -21,7 +21,7 @@ ghost use Rattle.refusal.specs.Refusal.{mapped, puts, putAnswer, refusalAt};
 ghost use Rattle.pulse.specs.Pulse.{fixed, classes, pulses};
 ghost use Rattle.pulse.specs.declared.Class.the-variants.{Short};
 ghost use Rattle.byte.specs.Byte.{byteAt, isGood};
-ghost use Rattle.block.specs.Block.{checksum, bytesClasses, trailer, copyClasses, wrongSize, wrongLeader, writeBlock};
+ghost use Rattle.block.specs.Block.{checksum, bytesClasses, copyClasses, copyPulses, trailer, wrongSize, wrongLeader, writeBlock};
 ghost use Rattle.block.specs.Reading.{startOf, counted, isMiscounted, placeAt, valueOrZero, valuesAt, isLost, sumHolds, readAt, readBlock, blockAnswer, extentOf, payloadOf};
 ghost use Rattle.block.specs.Checks.{foundAt, checkOf};
 
@@ -34,7 +34,8 @@ pub const MOST_LEADER: usize = 65535;
 
 const COUNTDOWN_BYTES: usize = 9;
 
-const COUNTDOWNS: [[u8; 9]; 2] = [
+// That of copy one, and that of copy two.
+const COUNTDOWNS: [[u8; COUNTDOWN_BYTES]; 2] = [
     [0x89, 0x88, 0x87, 0x86, 0x85, 0x84, 0x83, 0x82, 0x81],
     [0x09, 0x08, 0x07, 0x06, 0x05, 0x04, 0x03, 0x02, 0x01],
 ];
@@ -87,12 +88,14 @@ pub fn write_block(payload: &[u8], leader: usize, out: &mut [u32]) -> Put
     let sum = checksum_of(payload);
     put_shorts(out, 0, leader);
     put_copy(out, leader, 0, payload, sum);
+    put_trailer(out, leader + copy);
     put_copy(out, two, 1, payload, sum);
+    put_trailer(out, two + copy);
     Put::Count(count)
 }
 
-// Reads the first block of n payload bytes at or after `from`, and puts its payload. It refuses a wrong n, an output that is too short,
-// and a strip that holds no such block.
+// Reads the block of n payload bytes whose start is the first at or after `from`, and puts its payload. It refuses a wrong n, an output
+// that is too short, a strip with no start, and a block that is cut short or damaged beyond repair.
 pub fn read_block(strip: &[u32], from: usize, n: usize, out: &mut [u8]) -> BlockAnswer
     ensures answer { λ r. ⌜ blockAnswer r ≡ mapped extentOf (readBlock (classes fixed (now (strip .entry))) (length (now (out .entry))) from n) ⌝ }
     ensures put { λ _. ⌜ now (out .exit) ≡ putAt (now (out .entry)) 0 (puts (mapped payloadOf (readBlock (classes fixed (now (strip .entry))) (length (now (out .entry))) from n))) ⌝ }
@@ -148,15 +151,6 @@ fn put_shorts(out: &mut [u32], at: usize, count: usize)
     }
 }
 
-fn put_trailer(out: &mut [u32], at: usize)
-    requires { ⌜ at + 61 ≤ length (now out) ⌝ }
-    ensures { λ _. ⌜ now (out .exit) ≡ sets (now (out .entry)) at (pulses trailer) ⌝ }
-{
-    let long = pulse::written_as(Class::Long);
-    out[at] = long.0;
-    put_shorts(out, at + 1, TRAILER_SHORTS);
-}
-
 fn put_bytes(out: &mut [u32], at: usize, bytes: &[u8])
     requires { ⌜ at + 20 * length (now bytes) ≤ length (now out) ⌝ }
     ensures { λ _. ⌜ now (out .exit) ≡ sets (now (out .entry)) at (pulses (bytesClasses (now (bytes .entry)))) ⌝ }
@@ -168,9 +162,9 @@ fn put_bytes(out: &mut [u32], at: usize, bytes: &[u8])
     }
 }
 
-// Puts copy one, for copy 0, or copy two, for copy 1, with its trailer.
+// Puts copy one, which is copy 0 here, or copy two, which is copy 1.
 fn put_copy(out: &mut [u32], at: usize, copy: usize, payload: &[u8], sum: u8)
-    requires small { ⌜ (copy < 2) × (at + 20 * (length (now payload) + 10) + 61 ≤ length (now out)) ⌝ }
+    requires small { ⌜ (copy < 2) × (at + copyPulses (length (now payload)) ≤ length (now out)) ⌝ }
     requires summed { ⌜ sum ≡ checksum (now payload) ⌝ }
     ensures { λ _. ⌜ now (out .exit) ≡ sets (now (out .entry)) at (pulses (copyClasses copy (now (payload .entry)))) ⌝ }
 {
@@ -180,7 +174,15 @@ fn put_copy(out: &mut [u32], at: usize, copy: usize, payload: &[u8], sum: u8)
     put_bytes(out, at, &countdown);
     put_bytes(out, values, payload);
     byte::put_byte(out, last, sum);
-    put_trailer(out, last + byte::BYTE_PULSES);
+}
+
+fn put_trailer(out: &mut [u32], at: usize)
+    requires { ⌜ at + 61 ≤ length (now out) ⌝ }
+    ensures { λ _. ⌜ now (out .exit) ≡ sets (now (out .entry)) at (pulses trailer) ⌝ }
+{
+    let long = pulse::written_as(Class::Long);
+    out[at] = long.0;
+    put_shorts(out, at + 1, TRAILER_SHORTS);
 }
 
 // ---- Reading
@@ -227,6 +229,7 @@ fn find_start(t: Thresholds, strip: &[u32], from: usize) -> Found
         if pulse::is_short(t, Cycles(strip[at])) {
             shorts = shorts + 1;
         } else {
+            // one turn: a block that can be left by its label
             'look: loop {
                 if shorts < SYNC_SHORTS {
                     break 'look;
@@ -244,9 +247,9 @@ fn find_start(t: Thresholds, strip: &[u32], from: usize) -> Found
 
 // Rules 2 to 5, for a start that was found. Nothing is put before all of them hold.
 fn read_at(t: Thresholds, strip: &[u32], start: usize, n: usize, out: &mut [u8]) -> BlockAnswer
-    requires { ⌜ (start ≤ length (now strip)) × (n < 65536) × (n ≤ length (now out)) ⌝ }
-    ensures answer { λ r. ⌜ blockAnswer r ≡ mapped extentOf (readAt (classes t (now (strip .entry))) n start) ⌝ }
-    ensures put { λ _. ⌜ now (out .exit) ≡ putAt (now (out .entry)) 0 (puts (mapped payloadOf (readAt (classes t (now (strip .entry))) n start))) ⌝ }
+    requires { ⌜ (start ≤ length (now strip)) × (n ≤ 8192) × (n ≤ length (now out)) ⌝ }
+    ensures answer { λ r. ⌜ blockAnswer r ≡ mapped extentOf (readAt (classes t (now (strip .entry))) start n) ⌝ }
+    ensures put { λ _. ⌜ now (out .exit) ≡ putAt (now (out .entry)) 0 (puts (mapped payloadOf (readAt (classes t (now (strip .entry))) start n))) ⌝ }
 {
     let copy = byte::BYTE_PULSES * (n + EXTRA_BYTES);
     let two = start + copy + TRAILER_PULSES;
@@ -269,7 +272,7 @@ fn read_at(t: Thresholds, strip: &[u32], start: usize, n: usize, out: &mut [u8])
 
 // Rule 3 at countdown place i of the copies from `one` and from `two` on.
 fn is_counted(t: Thresholds, strip: &[u32], one: usize, two: usize, i: usize) -> bool
-    requires { ⌜ (i < 9) × (one ≤ two) × (two + 180 ≤ length (now strip)) ⌝ }
+    requires { ⌜ (i < 9) × (one ≤ two) × (two + 20 * 9 ≤ length (now strip)) ⌝ }
     ensures { λ r. ⌜ r ≡ counted (classes t (now (strip .entry))) one two i ⌝ }
 {
     let at = byte::BYTE_PULSES * i;
@@ -280,7 +283,7 @@ fn is_counted(t: Thresholds, strip: &[u32], one: usize, two: usize, i: usize) ->
 }
 
 fn first_miscounted(t: Thresholds, strip: &[u32], one: usize, two: usize) -> Found
-    requires { ⌜ (one ≤ two) × (two + 180 ≤ length (now strip)) ⌝ }
+    requires { ⌜ (one ≤ two) × (two + 20 * 9 ≤ length (now strip)) ⌝ }
     ensures { λ r. ⌜ foundAt r ≡ firstFrom (isMiscounted (classes t (now (strip .entry))) one two) 9 0 ⌝ }
 {
     let mut i: usize = 0;
@@ -294,7 +297,7 @@ fn first_miscounted(t: Thresholds, strip: &[u32], one: usize, two: usize) -> Fou
 }
 
 // Rule 4 at place i after the countdown: copy one's byte where it is good, else copy two's.
-fn repaired(t: Thresholds, strip: &[u32], one: usize, two: usize, i: usize) -> ByteRead
+fn read_place(t: Thresholds, strip: &[u32], one: usize, two: usize, i: usize) -> ByteRead
     requires { ⌜ (one ≤ two) × (two + 20 * (9 + i) ≤ length (now strip)) ⌝ }
     ensures { λ r. ⌜ r ≡ placeAt (classes t (now (strip .entry))) one two i ⌝ }
 {
@@ -307,19 +310,19 @@ fn repaired(t: Thresholds, strip: &[u32], one: usize, two: usize, i: usize) -> B
 
 // Rules 4 and 5: whether a place is lost, and whether the checksum holds for the repaired values.
 fn check_values(t: Thresholds, strip: &[u32], one: usize, two: usize, n: usize) -> Check
-    requires { ⌜ (one ≤ two) × (two + 20 * (n + 10) ≤ length (now strip)) ⌝ }
+    requires { ⌜ (one ≤ two) × (two + copyPulses n ≤ length (now strip)) ⌝ }
     ensures { λ r. ⌜ r ≡ checkOf (firstFrom (isLost (classes t (now (strip .entry))) one two) (n + 1) 0) (sumHolds (classes t (now (strip .entry))) one two n) ⌝ }
 {
     let mut sum: u8 = 0;
     let mut i: usize = 0;
     while i < n {
-        let ByteRead::Good(value) = repaired(t, strip, one, two, i) else {
+        let ByteRead::Good(value) = read_place(t, strip, one, two, i) else {
             return Check::LostAt(i);
         };
         sum = sum ^ value;
         i = i + 1;
     }
-    let ByteRead::Good(expected) = repaired(t, strip, one, two, n) else {
+    let ByteRead::Good(expected) = read_place(t, strip, one, two, n) else {
         return Check::LostAt(n);
     };
     if sum == expected {
@@ -339,12 +342,12 @@ fn value_or_zero(r: ByteRead) -> u8
 }
 
 fn put_values(t: Thresholds, strip: &[u32], one: usize, two: usize, n: usize, out: &mut [u8])
-    requires { ⌜ (one ≤ two) × (two + 20 * (n + 10) ≤ length (now strip)) × (n ≤ length (now out)) ⌝ }
+    requires { ⌜ (one ≤ two) × (two + copyPulses n ≤ length (now strip)) × (n ≤ length (now out)) ⌝ }
     ensures { λ _. ⌜ now (out .exit) ≡ sets (now (out .entry)) 0 (valuesAt (classes t (now (strip .entry))) one two n) ⌝ }
 {
     let mut i: usize = 0;
     while i < n {
-        out[i] = value_or_zero(repaired(t, strip, one, two, i));
+        out[i] = value_or_zero(read_place(t, strip, one, two, i));
         i = i + 1;
     }
 }

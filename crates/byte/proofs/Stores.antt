@@ -3,16 +3,17 @@ use Prim.Native.Nat.{ℕ, zero, suc, _+_, _-_, _*_, _/_, _%_, _≤_, _<_}
 use native.Mathlib.Omega.{arith}
 use mathlib.Core.Path.{_≡_, refl, sym, ap, _∙_}
 use mathlib.Core.Bool.{true, false}
-use mathlib.Core.List.{List, [], _∷_, map-append}
+use mathlib.Core.List.{List, [], _∷_, _++_, append-nil, map-append}
 use borrow.Author.Tests.{le-leb, lt-leb}
 use lib.ListN.{length, length-map}
 use lib.Seq.{sets}
 use Rattle.lists.specs.Buffer.{hasRoom, putAt}
 use Rattle.lists.proofs.BufferLaws.{put-room, put-none}
 use Rattle.lists.proofs.LoopLaws.{Putting, put-begun, put-next, put-done}
+use Rattle.pulse.specs.declared.Class.{Class}
 use Rattle.pulse.specs.declared.Class.the-variants.{Short, Medium, Long}
 use Rattle.pulse.specs.Pulse.{writtenAs, pulses}
-use Rattle.pulse.proofs.PulseLaws.{sets-pulses}
+use Rattle.pulse.proofs.PulseLaws.{put-pulses}
 use Rattle.byte.specs.Byte.{bits, parityBit, coded, byteClasses, bytePulses}
 use Rattle.byte.proofs.CodingLaws.{coded-append, length-coded, length-bits, length-byte}
 
@@ -64,10 +65,15 @@ pub put-whole : (out : List ℕ) (at b : ℕ) {one two three : List ℕ} {parity
     → parity ≡ parityBit b → three ≡ sets two (at + 18) (pulses (coded (parity ∷ [])))
     → (true ≡ hasRoom out at 20) × (three ≡ putAt out at (bytePulses b))
 unfolding byteClasses
-put-whole out at b room e f p g = (
-  sym (le-leb (at + 20) (length out) room),
-  rw (g, p, f, e) (ap (λ x. sets x (at + 18) (pulses (coded (parityBit b ∷ [])))) (sets-pulses out at 2 (Long ∷ Medium ∷ []) (coded (bits 8 b)) refl))
-      ∙ sets-pulses out at 18 (Long ∷ Medium ∷ coded (bits 8 b)) (coded (parityBit b ∷ [])) (simp (length-coded, length-bits))
-      ∙ ap (λ cs. sets out at (pulses (Long ∷ Medium ∷ cs))) (sym (coded-append (bits 8 b) (parityBit b ∷ [])))
-      ∙ put-room out at (bytePulses b) (rw (length-map (byteClasses b) writtenAs, length-byte b) room),
-)
+put-whole out at b room e f p g =
+    let marker = Long ∷ Medium ∷ [] in
+    let eight = coded (bits 8 b) in
+    let ninth = coded (parityBit b ∷ []) in
+    let w : byteClasses b ≡ marker ++ (eight ++ ninth) = ap (λ (cs : List Class). Long ∷ Medium ∷ cs) (coded-append (bits 8 b) (parityBit b ∷ [])) in
+    let u₀ = put-begun out at at (bytePulses b) (pulses (marker ++ (eight ++ ninth))) refl (ap pulses (sym w)) in
+    let u₁ = put-pulses marker (eight ++ ninth) u₀ e refl refl in
+    let u₂ = put-pulses eight ninth u₁ f (length-coded (bits 8 b) ∙ ap (λ k. 2 * k) (length-bits 8 b)) (let q : at + 18 ≡ at + 2 + 2 * 8 = omega arith in q) in
+    let u₃ = put-next u₂ (pulses ninth) [] (sym (append-nil (pulses ninth))) (rw p at g) refl in (
+      sym (le-leb (at + 20) (length out) room),
+      put-done u₃ refl ∙ put-room out at (bytePulses b) (rw (length-map (byteClasses b) writtenAs, length-byte b) room),
+    )

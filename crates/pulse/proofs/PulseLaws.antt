@@ -8,7 +8,7 @@ use borrow.Author.Tests.{eqb-true}
 use lib.Dec.{ltb}
 use lib.ListN.{length, getD, length-map}
 use lib.Seq.{sets}
-use Rattle.lists.proofs.BufferLaws.{sets-append}
+use Rattle.lists.proofs.LoopLaws.{Putting, put-next}
 use Rattle.pulse.specs.declared.Thresholds.{Thresholds}
 use Rattle.pulse.specs.declared.Class.{Class}
 use Rattle.pulse.specs.declared.Class.the-variants.{Short, Medium, Long, Noise}
@@ -75,12 +75,12 @@ pub classes-pulses : (cs : List Class) → classes fixed (pulses cs) ≡ cs
 classes-pulses [] = refl
 classes-pulses (c ∷ cs) = ap₂ (λ (x : Class) (xs : List Class). x ∷ xs) (class-written c) (classes-pulses cs)
 
--- two stretches of pulses stored one after the other
-pub sets-pulses : (out : List ℕ) (at n : ℕ) (xs ys : List Class) → length xs ≡ n
-    → sets (sets out at (pulses xs)) (at + n) (pulses ys) ≡ sets out at (pulses (xs ++ ys))
-sets-pulses out at n xs ys e =
-    ap (λ k. sets (sets out at (pulses xs)) (at + k) (pulses ys)) (sym (length-map xs writtenAs ∙ e))
-    ∙ sym (sets-append (pulses xs) (pulses ys) out at) ∙ ap (sets out at) (sym (map-append writtenAs xs ys))
+-- one stretch of pulses more is put
+pub put-pulses : {before : List ℕ} {at : ℕ} {values buffer buffer′ : List ℕ} {p p′ n : ℕ} (now later : List Class)
+    → Putting before at values buffer p (pulses (now ++ later)) → buffer′ ≡ sets buffer p (pulses now) → length now ≡ n → p′ ≡ p + n
+    → Putting before at values buffer′ p′ (pulses later)
+put-pulses {p = p} now later u e l q =
+    put-next u (pulses now) (pulses later) (map-append writtenAs now later) e (q ∙ ap (λ n. p + n) (sym (length-map now writtenAs ∙ l)))
 
 pub written-ntsc : Written ntsc
 written-ntsc = record { short = refl; medium = refl; long = refl }

@@ -8,21 +8,36 @@ use Rattle.refusal.specs.declared.Refusal.{Refusal}
 use Rattle.refusal.specs.declared.Put.{Put}
 use Rattle.refusal.specs.declared.Put.the-variants.{Count, Refused}
 
--- the number of each reason
+-- the number of each reason, which is given exactly when
 abbrev pub numberOf : Reason → ℕ
+-- n is 0 or over 8,192; over 1,048,576 durations to write as TAP; a name over 187 bytes; a lone header to unpack is not 192 bytes;
+-- listing input over 16 KiB
 numberOf WrongSize = 1
+-- an output is shorter than what must be put there
 numberOf NoRoom = 2
+-- no start exists
 numberOf NoStart = 3
+-- the strip ends before copy two does
 numberOf CutShort = 4
+-- a countdown place fails rule 3
 numberOf WrongCountdown = 5
+-- a place is lost
 numberOf LostByte = 6
+-- rule 5 fails
 numberOf WrongChecksum = 7
+-- the type is not 1 or 3 in a program file, not 1 to 5 in a lone header
 numberOf WrongType = 8
+-- end is not above start, or is over 8,192 above it, or, in writing, end minus start is not the number of bytes lent
 numberOf WrongAddresses = 9
+-- TAP: under 20 bytes, wrong letters, reserved bytes not zero, or a wrong data count
 numberOf WrongTapHeader = 10
+-- TAP version above 1
 numberOf WrongTapVersion = 11
+-- TAP: a zero byte with fewer than three bytes after it, version 1
 numberOf CutLongForm = 12
+-- a duration has no form in that version
 numberOf NoTapForm = 13
+-- K under 64 or over 65,535
 numberOf WrongLeader = 14
 
 -- What a call comes to, in document 01's numbers: refused, with the number, the block and the place; or accepted, with what it gives.
@@ -30,23 +45,23 @@ pub data Outcome (A : Type 0) : Type 0 where
   refused : (number block place : ℕ) → Outcome A
   accepted : (given : A) → Outcome A
 
--- a refusal of a lone block or a header, or of no block at all
-abbrev pub refuse : {A : Type 0} → Reason → ℕ → Outcome A
-refuse reason place = refused (numberOf reason) 0 place
-
-abbrev pub refusalAt : Reason → ℕ → Refusal
+-- a refusal that names block 0: of a header, a lone block, or no block at all
+abbrev pub refusalAt : (reason : Reason) (place : ℕ) → Refusal
 refusalAt reason place = record { reason = reason; block = 0; place = place }
 
--- a refusal as a call answers it
+-- the struct that a call answers, in document 01's numbers
 abbrev pub told : {A : Type 0} → Refusal → Outcome A
 told r = refused (numberOf (r .reason)) (r .block) (r .place)
 
--- refused at the first place that was found, if there is one
-abbrev pub refuseAt : {A : Type 0} → Reason → Option ℕ → Outcome A → Outcome A
-refuseAt reason none otherwise = otherwise
-refuseAt reason (some place) otherwise = refuse reason place
+abbrev pub refuse : {A : Type 0} (reason : Reason) (place : ℕ) → Outcome A
+refuse reason place = told (refusalAt reason place)
 
--- a part of what is given
+-- refused at the first place that was found, if there is one
+abbrev pub refuseFirst : {A : Type 0} (reason : Reason) (found : Option ℕ) (otherwise : Outcome A) → Outcome A
+refuseFirst reason none otherwise = otherwise
+refuseFirst reason (some place) otherwise = refuse reason place
+
+-- the same refusal, or what a function makes of what is given
 abbrev pub mapped : {A B : Type 0} → (A → B) → Outcome A → Outcome B
 mapped f (refused number block place) = refused number block place
 mapped f (accepted given) = accepted (f given)

@@ -22,8 +22,8 @@ abbrev μ-loop : tie.MeasureT-loop
 loop-holds : tie.Need-loop-holds Inv-loop μ-loop
 loop-holds c = begun _ _ _ _
 
-repaired-requires : tie.Need-repaired-requires Inv-loop μ-loop
-repaired-requires c κs = search needs
+read-place-requires : tie.Need-read-place-requires Inv-loop μ-loop
+read-place-requires c κs = search needs
 
 enum-known-value : tie.Need-enum-known-value Inv-loop μ-loop
 enum-known-value c = search needs
@@ -34,7 +34,7 @@ enum-told c = search needs
 returns : tie.Need-returns Inv-loop μ-loop
 returns c =
     let r = c .before .before in
-    lost (r .before .before .loop .inv) _ (sym (r .repaired .ensures) ∙ c .enum-told .given .1)
+    lost (r .before .before .loop .inv) _ (sym (r .read-place .ensures) ∙ c .enum-told .given .1)
 
 add-i : tie.Need-add-i Inv-loop μ-loop
 add-i c = search needs
@@ -45,10 +45,10 @@ loop-less c = search needs
 loop-again : tie.Need-loop-again Inv-loop μ-loop
 loop-again c =
     let r = c .before .before .before in
-    next (r .before .before .loop .inv) (r .before .loop-test .taken) (sym (r .repaired .ensures) ∙ c .before .value .given .1)
+    next (r .before .before .loop .inv) (r .before .loop-test .taken) (sym (r .read-place .ensures) ∙ c .before .value .given .1)
 
-repaired-requires-2 : tie.Need-repaired-requires-2 Inv-loop μ-loop
-repaired-requires-2 c κs = search needs
+read-place-requires-2 : tie.Need-read-place-requires-2 Inv-loop μ-loop
+read-place-requires-2 c κs = search needs
 
 enum-known-expected : tie.Need-enum-known-expected Inv-loop μ-loop
 enum-known-expected c = search needs
@@ -64,19 +64,19 @@ returns-2 c =
     let u = h .loop .inv in
     let few = u .few in
     let e : h .loop .i ≡ a .n = omega arith in
-    ap LostAt (sym e) ∙ lost u _ (ap (placeAt (classes (a .t) (now (a .strip))) (a .one) (a .two)) e ∙ sym (r .repaired2 .ensures) ∙ c .enum-told2 .given .1)
+    ap LostAt (sym e) ∙ lost u _ (ap (placeAt (classes (a .t) (now (a .strip))) (a .one) (a .two)) e ∙ sym (r .read-place2 .ensures) ∙ c .enum-told2 .given .1)
 
 returns-3 : tie.Need-returns-3 Inv-loop μ-loop
 returns-3 c =
     let x = c .before .before in
     let r = x .before .before in
-    sound (r .before .before .loop .inv) (r .before .loop-test .left) (sym (r .repaired2 .ensures) ∙ x .expected .given .1) (c .if1 .taken)
+    sound (r .before .before .loop .inv) (r .before .loop-test .left) (sym (r .read-place2 .ensures) ∙ x .expected .given .1) (c .if1 .taken)
 
 returns-4 : tie.Need-returns-4 Inv-loop μ-loop
 returns-4 c =
     let x = c .before .before in
     let r = x .before .before in
-    wrong (r .before .before .loop .inv) (r .before .loop-test .left) (sym (r .repaired2 .ensures) ∙ x .expected .given .1) (c .if1 .left)
+    wrong (r .before .before .loop .inv) (r .before .loop-test .left) (sym (r .read-place2 .ensures) ∙ x .expected .given .1) (c .if1 .left)
 
 pub check-values-spec : {M : Type 1} → statement M
 check-values-spec =
@@ -85,14 +85,14 @@ check-values-spec =
     Inv-loop
     μ-loop
     loop-holds
-    repaired-requires
+    read-place-requires
     enum-known-value
     enum-told
     returns
     add-i
     loop-less
     loop-again
-    repaired-requires-2
+    read-place-requires-2
     enum-known-expected
     enum-told-2
     returns-2

@@ -1,4 +1,4 @@
--- `block::put_copy` meets its contract: countdown, payload, checksum and trailer are stored one after the other.
+-- `block::put_copy` meets its contract: countdown, payload and checksum are stored one after the other.
 use native.Mathlib.Omega.{arith}
 use mathlib.Core.Path.{sym}
 use borrow.Author.Needs.{needs}
@@ -40,25 +40,18 @@ put-bytes-requires-2 c κs = search needs
 put-byte-requires : tie.Need-put-byte-requires
 put-byte-requires c κs = search needs
 
-add-put-trailer : tie.Need-add-put-trailer
-add-put-trailer c = search needs
-
-put-trailer-requires : tie.Need-put-trailer-requires
-put-trailer-requires c κs = search needs
-
 same-length : tie.Need-same-length
 same-length c = search needs
 
 returns : tie.Need-returns
 returns c =
-    let four = c .before .before in
-    let three = four .before .before .before .before in
+    let three = c .before .before in
     let two = three .before .before .before .before in
     let one = two .before .before .before .before in
     let s = one .before .before .before .before .before .before in
     let a = s .args in
     copy-put (now (a .out)) (a .at) (a .copy) (now (a .payload)) (s .pre .0 .1) (row-countdown (a .copy) (s .pre .0 .0)) (s .pre .1)
-    (one .put-bytes .ensures) (two .put-bytes2 .ensures) (three .put-byte .ensures .1) (four .put-trailer .ensures)
+    (one .put-bytes .ensures) (two .put-bytes2 .ensures) (three .put-byte .ensures .1)
 
 pub put-copy-spec : {M : Type 1} → statement M
 put-copy-spec =
@@ -74,7 +67,5 @@ put-copy-spec =
     put-bytes-requires
     put-bytes-requires-2
     put-byte-requires
-    add-put-trailer
-    put-trailer-requires
     same-length
     returns)

@@ -20,8 +20,8 @@ abbrev μ-loop : tie.MeasureT-loop
 loop-holds : tie.Need-loop-holds Inv-loop μ-loop
 loop-holds c = (omega arith, put-begun _ 0 0 _ _ refl (table-begun _ _))
 
-repaired-requires : tie.Need-repaired-requires Inv-loop μ-loop
-repaired-requires c κs = search needs
+read-place-requires : tie.Need-read-place-requires Inv-loop μ-loop
+read-place-requires c κs = search needs
 
 value-or-zero-requires : tie.Need-value-or-zero-requires Inv-loop μ-loop
 value-or-zero-requires c κs = search needs
@@ -43,7 +43,7 @@ loop-again c =
       omega arith,
       put-one (h .loop .inv .1) _ (tableLeft value (a .n) (h .loop .i + 1))
           (table-next value (a .n) (h .loop .i) (c .before .before .loop-test .taken)
-          ∙ ap (λ v. v ∷ tableLeft value (a .n) (h .loop .i + 1)) (sym (c .value-or-zero .ensures ∙ ap valueOrZero (c .before .repaired .ensures))))
+          ∙ ap (λ v. v ∷ tableLeft value (a .n) (h .loop .i + 1)) (sym (c .value-or-zero .ensures ∙ ap valueOrZero (c .before .read-place .ensures))))
           refl,
     )
 
@@ -63,7 +63,7 @@ put-values-spec =
     Inv-loop
     μ-loop
     loop-holds
-    repaired-requires
+    read-place-requires
     value-or-zero-requires
     slice-write-out
     add-i

@@ -84,24 +84,39 @@ put-shorts-requires c κs = search needs
 put-copy-requires : tie.Need-put-copy-requires
 put-copy-requires c κs = search needs
 
+add-put-trailer : tie.Need-add-put-trailer
+add-put-trailer c = search needs
+
+put-trailer-requires : tie.Need-put-trailer-requires
+put-trailer-requires c κs = search needs
+
 put-copy-requires-2 : tie.Need-put-copy-requires-2
 put-copy-requires-2 c κs = search needs
+
+add-put-trailer-2 : tie.Need-add-put-trailer-2
+add-put-trailer-2 c = search needs
+
+put-trailer-requires-2 : tie.Need-put-trailer-requires-2
+put-trailer-requires-2 c κs = search needs
 
 same-length : tie.Need-same-length
 same-length c = search needs
 
 returns-4 : tie.Need-returns-4
 returns-4 c =
-    let two = c .before .before in
-    let one = two .before .before .before .before in
+    let bothEnd = c .before .before in
+    let both = bothEnd .before .before .before .before in
+    let oneEnd = both .before .before .before .before in
+    let one = oneEnd .before .before .before .before in
     let led = one .before .before .before .before in
     let room = led .before .before .before in
     let b = room .before in
-    let e = b .before in
-    let w = e .before .before in
+    let l = b .before in
+    let w = l .before .before in
     let a = w .before .before .before .args in
-    whole (now (a .out)) (a .leader) (now (a .payload)) (sym (w .wrong-size .ensures) ∙ e .before .if1 .left)
-    (sym (e .wrong-leader .ensures) ∙ b .if2 .left) (room .if3 .left) (led .put-shorts .ensures) (one .put-copy .ensures) (two .put-copy2 .ensures)
+    whole (now (a .out)) (a .leader) (now (a .payload)) (sym (w .wrong-size .ensures) ∙ l .before .if1 .left)
+    (sym (l .wrong-leader .ensures) ∙ b .if2 .left) (room .if3 .left) (led .put-shorts .ensures) (one .put-copy .ensures) (oneEnd .put-trailer .ensures)
+    (both .put-copy2 .ensures) (bothEnd .put-trailer2 .ensures)
 
 pub write-block-spec : {M : Type 1} → statement M
 write-block-spec =
@@ -124,6 +139,10 @@ write-block-spec =
     checksum-of-requires
     put-shorts-requires
     put-copy-requires
+    add-put-trailer
+    put-trailer-requires
     put-copy-requires-2
+    add-put-trailer-2
+    put-trailer-requires-2
     same-length
     returns-4)

@@ -1,8 +1,8 @@
--- `block::repaired` meets its contract, by whether copy one's byte is good.
+-- `block::read_place` meets its contract, by whether copy one's byte is good.
 use borrow.Author.Needs.{needs}
 use Rattle.block.specs.Reading.{placeAt}
-use Rattle.block.proofs.repaired.Statement.{statement}
-use Rattle.block.proofs.repaired.Tie as tie
+use Rattle.block.proofs.read_place.Statement.{statement}
+use Rattle.block.proofs.read_place.Tie as tie
 
 add-at : tie.Need-add-at
 add-at c = search needs
@@ -38,8 +38,8 @@ returns-2 : tie.Need-returns-2
 unfolding placeAt
 returns-2 c = let r = c .before .before .before in rw (← (r .read-byte .ensures), c .before .value .given .1)
 
-pub repaired-spec : {M : Type 1} → statement M
-repaired-spec =
+pub read-place-spec : {M : Type 1} → statement M
+read-place-spec =
     tie.close
     (tie.spec
     add-at
