@@ -13,7 +13,7 @@ use lib.ListN.{length, getD, replicate, length-append, length-replicate, length-
 use lib.Seq.{take-at, getD-append-add}
 use Rattle.lists.specs.Places.{part, Below}
 use Rattle.lists.proofs.BoolLaws.{or-false}
-use Rattle.lists.proofs.PlaceLaws.{length-tabulate, getD-tabulate}
+use Rattle.lists.proofs.PlaceLaws.{length-tabulate, getD-tabulate, below-append, below-one}
 use Rattle.lists.proofs.PartLaws.{part-past}
 use Rattle.pulse.specs.declared.Class.{Class}
 use Rattle.pulse.specs.declared.Class.the-variants.{Short}
@@ -83,15 +83,6 @@ module _ (copy : ℕ) (payload : List ℕ) where
   copy-value i = rw (← (length-countdown copy)) (getD-append-add (countdown copy) (payload ++ (checksum payload ∷ [])) i 0)
 
 -- ---- Every byte of a copy is a byte
-
-below-append : (xs ys : List ℕ) → Below 256 xs → Below 256 ys → Below 256 (xs ++ ys)
-below-append [] ys b c i = c i
-below-append (x ∷ xs) ys b c zero = b zero
-below-append (x ∷ xs) ys b c (suc i) = below-append xs ys (λ j. b (suc j)) c i
-
-below-one : (x : ℕ) → x < 256 → Below 256 (x ∷ [])
-below-one x h zero = h
-below-one x h (suc i) = lit< tt
 
 first-lt : (copy : ℕ) → firstByte copy < 256
 first-lt zero = lit< tt

@@ -1,11 +1,11 @@
 -- Laws of damage: every strip within the damage of a block is accepted, with the payload; the block as written is one of them.
-use Prim.Native.Nat.{ℕ, _+_, _-_, _*_, _^_, _≤_, _<_}
+use Prim.Native.Nat.{ℕ, _+_, _-_, _*_, _≤_, _<_}
 use native.Mathlib.Nat.{zero-add}
 use native.Mathlib.Decide.{decLt}
 use native.Mathlib.Omega.{arith}
 use mathlib.Core.Path.{_≡_, refl, sym, ap, _∙_}
 use mathlib.Core.Logic.{_⊎_, inl, inr}
-use mathlib.Core.Bool.{Bool, true, false, not, _||_}
+use mathlib.Core.Bool.{true, false, not, _||_}
 use mathlib.Core.List.{List, [], _∷_, _++_}
 use mathlib.Core.Option.{some}
 use borrow.Author.Tests.{le-ltb, ltb-false, eq-eqb}
@@ -14,6 +14,7 @@ use lib.ListN.{length, getD, length-map, length-take, length-drop, getD-replicat
 use lib.Seq.{getD-take, getD-at}
 use Rattle.lists.specs.Places.{tabulate, part, Below}
 use Rattle.lists.specs.Buffer.{putAt}
+use Rattle.lists.proofs.BoolLaws.{or-right}
 use Rattle.lists.proofs.PlaceLaws.{first-none, tabulate-is}
 use Rattle.lists.proofs.PartLaws.{part-part, getD-part, part-map}
 use Rattle.lists.proofs.BufferLaws.{part-put}
@@ -21,15 +22,14 @@ use Rattle.refusal.specs.declared.Reason.the-variants.{WrongSize, NoRoom, Wrong
 use Rattle.refusal.specs.Refusal.{accepted}
 use Rattle.refusal.proofs.OutcomeLaws.{accepted-next}
 use Rattle.pulse.specs.declared.Class.{Class}
-use Rattle.pulse.specs.declared.Class.the-variants.{Short, Medium, Long, Noise}
-use Rattle.pulse.specs.Pulse.{fixed, classOf, classes, code, same, writtenAs}
-use Rattle.pulse.proofs.PulseLaws.{class-at, classes-pulses}
+use Rattle.pulse.specs.declared.Class.the-variants.{Short, Noise}
+use Rattle.pulse.specs.Pulse.{fixed, classOf, classes, same, writtenAs}
+use Rattle.pulse.proofs.PulseLaws.{class-at, written-lt, classes-pulses}
 use Rattle.byte.specs.declared.ByteRead.{ByteRead}
 use Rattle.byte.specs.declared.ByteRead.the-variants.{Good, Bad}
 use Rattle.byte.specs.Byte.{byteClasses, twenty, byteAt, isGood, isBad}
-use Rattle.byte.specs.Damage.{differ}
 use Rattle.byte.proofs.ByteLaws.{byteAt-written}
-use Rattle.byte.proofs.DamageLaws.{byteAt-differ}
+use Rattle.byte.proofs.DamageLaws.{differ-self, byteAt-differ}
 use Rattle.block.specs.Block.{checksum, copyBytes, blockClasses, blockPulses, wrongSize, wrongLeader, writeBlock}
 use Rattle.block.specs.Reading.{startOf, copyTwo, endOf, counted, repaired, placeAt, isLost, valueAt, valuesAt, blockAt, readCopies, readAt, readFound, readFrom, readBlock}
 use Rattle.block.specs.Damage.{OneSound, DamagedClasses, Damaged}
@@ -37,10 +37,6 @@ use Rattle.block.proofs.BlockLaws.{copy-countdown, copy-value, below-co
 use Rattle.block.proofs.StartLaws.{start-short}
 
 -- ---- A byte place of which one copy is sound
-
-or-right : (a b : Bool) → b ≡ true → (a || b) ≡ true
-or-right true b e = refl
-or-right false b e = e
 
 repaired-right : (a : ℕ) (r other : ByteRead) → (isBad r ≡ true) ⊎ (r ≡ Good a) → other ≡ Good a → repaired r other ≡ Good a
 repaired-right a (Good v) other (inl h) e = absurd (let z : _≡_ {A = ℕ} 0 1 = cc in omega arith)
@@ -172,23 +168,12 @@ module _ (strip : List ℕ) (o k : ℕ) (payload : List ℕ) {n : ℕ} (long : l
 
 -- ---- The block as written
 
-differ-self : (cs : List Class) → differ cs cs ≡ 0
-unfolding differ same
-differ-self [] = refl
-differ-self (c ∷ cs) = rw (eq-eqb (code c) (code c) refl, differ-self cs)
-
 damaged-self : (k n : ℕ) (w : List Class) → DamagedClasses k n w w
 damaged-self k n w = record {
   outside = record { leader = refl; between = refl; after = refl };
   first = refl;
   places = λ i h. inl (refl, rw (differ-self (twenty w (copyTwo k n + 20 * i))) (lit≤ tt));
 }
-
-written-lt : (c : Class) → writtenAs c < 2 ^ 32
-written-lt Short = lit< tt
-written-lt Medium = lit< tt
-written-lt Long = lit< tt
-written-lt Noise = lit< tt
 
 -- it lies within its own damage
 pub undamaged : (k : ℕ) (payload : List ℕ) → Damaged k payload (blockPulses k payload)

@@ -1,9 +1,8 @@
 -- Laws of the start of a block: the test that the search makes is rule 1 in words, and what the search finds is the smallest such place.
 use Prim.Native.Nat.{ℕ, zero, suc, _+_, _-_, _≤_, _<_}
-use native.Mathlib.Decide.{decLe}
 use native.Mathlib.Omega.{arith}
 use mathlib.Core.Path.{_≡_, refl, sym, ap, ap₂, _∙_}
-use mathlib.Core.Bool.{Bool, true, false, _&&_}
+use mathlib.Core.Bool.{true, false, _&&_}
 use mathlib.Core.List.{List, [], _∷_}
 use mathlib.Core.Option.{none, some}
 use borrow.Author.Tests.{le-leb, leb-true}
@@ -11,7 +10,7 @@ use lib.Dec.{leb}
 use lib.ListN.{length, getD, replicate, length-take, length-drop, getD-replicate}
 use lib.Seq.{ext-getD}
 use Rattle.lists.specs.Places.{part}
-use Rattle.lists.proofs.BoolLaws.{and-true}
+use Rattle.lists.proofs.BoolLaws.{and-true, not-holds}
 use Rattle.lists.proofs.PartLaws.{getD-part}
 use Rattle.lists.proofs.PlaceLaws.{none-first, first-none, some-first, first-some}
 use Rattle.pulse.specs.declared.Class.{Class}
@@ -20,16 +19,11 @@ use Rattle.pulse.specs.Pulse.{same}
 use Rattle.pulse.proofs.PulseLaws.{same-eq}
 use Rattle.byte.specs.declared.ByteRead.the-variants.{Good}
 use Rattle.byte.specs.Byte.{byteAt, isGood}
-use Rattle.byte.proofs.ByteLaws.{good-is, byteAt-fewer, byteAt-short}
+use Rattle.byte.proofs.ByteLaws.{good-is, byteAt-short, byteAt-within}
 use Rattle.block.specs.Block.{firstByte}
 use Rattle.block.specs.Reading.{allShort, isStart, Start, startOf}
 
 -- ---- Tests
-
--- a test that cannot hold fails
-not-holds : (t : Bool) → (t ≡ true → ⊥) → t ≡ false
-not-holds true h = absurd (h refl)
-not-holds false h = refl
 
 short-all : (n : ℕ) → allShort (replicate n Short) ≡ true
 unfolding allShort same
@@ -45,13 +39,6 @@ all-short (c ∷ cs) e =
 
 -- ---- The test is rule 1 in words
 
--- a good byte lies within the strip
-good-within : (cs : List Class) (p v : ℕ) → byteAt cs p ≡ Good v → p + 20 ≤ length cs
-good-within cs p v e = elim (decLe (p + 20) (length cs)) [
-  | yes h ↦ h
-  | no h ↦ absurd (let b = rw e at (byteAt-fewer cs p (omega arith)) in let z : _≡_ {A = ℕ} 0 1 = cc in omega arith)
-]
-
 module _ {cs : List Class} {from p : ℕ} where
   pub start-passes : Start cs from p → isStart cs from p ≡ true
   unfolding isStart
@@ -64,7 +51,7 @@ module _ {cs : List Class} {from p : ℕ} where
       let h′ = and-true (leb (from + 16) p) (allShort (part cs (p - 16) 16)) (h .0) in
       let far : from + 16 ≤ p = leb-true (from + 16) p (h′ .0) in
       let first : byteAt cs p ≡ Good 0x89 = good-is 0x89 (byteAt cs p) (h .1) in
-      let within : p + 20 ≤ length cs = good-within cs p 0x89 first in
+      let within : p + 20 ≤ length cs = byteAt-within cs p 0x89 first in
       let long : length (part cs (p - 16) 16) ≡ 16 = simp (length-take, length-drop) (omega arith) in
       record { far = far; shorts = all-short (part cs (p - 16) 16) (h′ .1) ∙ rw long; first = first }
 
@@ -86,7 +73,7 @@ module _ {cs : List Class} {from : ℕ} where
   pub start-some : {p : ℕ} → Start cs from p → ((i : ℕ) → i < p → Start cs from i → ⊥) → startOf cs from ≡ some p
   unfolding startOf
   start-some {p} s least =
-      let within : p + 20 ≤ length cs = good-within cs p 0x89 (s .first) in
+      let within : p + 20 ≤ length cs = byteAt-within cs p 0x89 (s .first) in
       first-some (record {
         low = omega arith;
         high = omega arith;
@@ -107,11 +94,15 @@ module _ {cs : List Class} {from : ℕ} where
   pub none-start : startOf cs from ≡ none → (p : ℕ) → Start cs from p → ⊥
   unfolding startOf
   none-start e p s =
-      let within : p + 20 ≤ length cs = good-within cs p 0x89 (s .first) in
+      let within : p + 20 ≤ length cs = byteAt-within cs p 0x89 (s .first) in
       let l = none-first (isStart cs from) (length cs) 0 e p (omega arith) (omega arith) in
       let t = start-passes s in
       let z : _≡_ {A = ℕ} 0 1 = cc in
       omega arith
+
+-- a `from` past the strip gives none
+pub start-past : (cs : List Class) (from : ℕ) → length cs ≤ from → startOf cs from ≡ none
+start-past cs from h = start-none (λ p s. let within = byteAt-within cs p 0x89 (s .first) in omega (arith, s .far))
 
 -- ---- Only short pulses between `from` and a good $89
 
@@ -128,7 +119,7 @@ pub start-short : (cs : List Class) (from p : ℕ) → from + 16 ≤ p → ((i :
     → ((i : ℕ) → from < i → i < p → getD cs i Noise ≡ Short) → byteAt cs p ≡ Good 0x89
     → startOf cs from ≡ some p
 start-short cs from p far near short first =
-    let within : p + 20 ≤ length cs = good-within cs p 0x89 first in
+    let within : p + 20 ≤ length cs = byteAt-within cs p 0x89 first in
     start-some
     (record { far = omega arith; shorts = shorts-before cs p (omega arith) (omega arith) near; first = first })
     (λ i h s. (let bad = rw (s .first) at (byteAt-short cs i (short i (omega (arith, s .far)) h)) in let z : _≡_ {A = ℕ} 0 1 = cc in omega arith))

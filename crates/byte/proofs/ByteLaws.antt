@@ -174,6 +174,13 @@ module _ (cs : List Class) (p : ℕ) where
   unfolding byteAt
   byteAt-short s = read-short (twenty cs p) (getD-take 20 (drop p cs) 0 Noise (lit< tt) ∙ getD-drop p cs 0 Noise ∙ rw add-zero s)
 
+  -- a good byte lies within the strip
+  pub byteAt-within : (v : ℕ) → byteAt cs p ≡ Good v → p + 20 ≤ length cs
+  byteAt-within v e = elim (decLe (p + 20) (length cs)) [
+    | yes h ↦ h
+    | no h ↦ absurd (let b = rw e at (byteAt-fewer (omega arith)) in let z : _≡_ {A = ℕ} 0 1 = cc in omega arith)
+  ]
+
 -- a byte that was put into a buffer is read there
 pub byteAt-put : (out : List ℕ) (at b : ℕ) → b < 256 → at + 20 ≤ length out → byteAt (classes fixed (putAt out at (bytePulses b))) at ≡ Good b
 unfolding putAt

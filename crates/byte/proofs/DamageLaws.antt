@@ -6,19 +6,26 @@ use mathlib.Core.Path.{_≡_, refl, sym, ap, _∙_}
 use mathlib.Core.Logic.{_⊎_, inl, inr}
 use mathlib.Core.Bool.{true}
 use mathlib.Core.List.{List, [], _∷_, _++_}
-use borrow.Author.Tests.{eqb-true}
+use borrow.Author.Tests.{eqb-true, eq-eqb}
 use lib.Count.{ones}
 use lib.Dec.{eqb}
 use lib.ListN.{length, length-take, length-drop}
 use lib.Seq.{take-all}
 use Rattle.lists.proofs.Table.{every-at}
 use Rattle.pulse.specs.declared.Class.{Class}
-use Rattle.pulse.specs.Pulse.{same}
+use Rattle.pulse.specs.Pulse.{code, same}
 use Rattle.byte.specs.declared.ByteRead.{ByteRead}
 use Rattle.byte.specs.declared.ByteRead.the-variants.{Good, Bad}
 use Rattle.byte.specs.Byte.{isOdd, bits, parityBit, coded, byteClasses, readByte, isBad, twenty, byteAt}
 use Rattle.byte.specs.Damage.{differ}
 use Rattle.byte.proofs.ByteLaws.{read-written, read-good-lt, read-good}
+
+-- ---- differ
+
+pub differ-self : (cs : List Class) → differ cs cs ≡ 0
+unfolding differ same
+differ-self [] = refl
+differ-self (c ∷ cs) = rw (eq-eqb (code c) (code c) refl, differ-self cs)
 
 -- ---- Coded bits
 

@@ -20,6 +20,15 @@ pub or-false : (a b : Bool) → (a || b) ≡ false → (a ≡ false) × (b ≡ f
 or-false true b e = absurd (let z : _≡_ {A = ℕ} 0 1 = cc in omega arith)
 or-false false b e = (refl, e)
 
+pub or-right : (a b : Bool) → b ≡ true → (a || b) ≡ true
+or-right true b e = refl
+or-right false b e = e
+
+-- a test that cannot hold fails
+pub not-holds : (t : Bool) → (t ≡ true → ⊥) → t ≡ false
+not-holds true h = absurd (h refl)
+not-holds false h = refl
+
 -- an answer that is not the second is the first
 pub cond-first : {A : Type 0} (t : Bool) (x y z : A) → (y ≡ z → ⊥) → cond t x y ≡ z → (t ≡ true) × (x ≡ z)
 cond-first true x y z h e = (refl, e)

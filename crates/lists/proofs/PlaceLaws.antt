@@ -8,7 +8,7 @@ use mathlib.Core.Bool.{Bool, true, false, cond}
 use mathlib.Core.List.{List, [], _∷_, _++_}
 use mathlib.Core.Option.{Option, none, some}
 use lib.ListN.{length, getD}
-use Rattle.lists.specs.Places.{firstFrom, First, tabulate}
+use Rattle.lists.specs.Places.{Below, firstFrom, First, tabulate}
 
 -- ---- firstFrom
 
@@ -104,3 +104,14 @@ unfolding tabulate
 getD-tabulate f zero at i h = absurd (omega arith)
 getD-tabulate f (suc count) at zero h = rw add-zero
 getD-tabulate f (suc count) at (suc i) h = getD-tabulate f count (suc at) i (omega arith) ∙ ap f (let z : suc at + i ≡ at + suc i = omega arith in z)
+
+-- ---- Below
+
+pub below-append : {bound : ℕ} (xs ys : List ℕ) → Below bound xs → Below bound ys → Below bound (xs ++ ys)
+below-append [] ys b c i = c i
+below-append (x ∷ xs) ys b c zero = b zero
+below-append (x ∷ xs) ys b c (suc i) = below-append xs ys (λ j. b (suc j)) c i
+
+pub below-one : {bound : ℕ} (x : ℕ) → x < bound → Below bound (x ∷ [])
+below-one x h zero = h
+below-one x h (suc i) = omega arith

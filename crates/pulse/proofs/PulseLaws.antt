@@ -1,11 +1,11 @@
 -- Laws of pulses and their classes.
-use Prim.Native.Nat.{ℕ, zero, suc, _+_, _<_}
+use Prim.Native.Nat.{ℕ, zero, suc, _+_, _^_, _<_}
 use native.Mathlib.Omega.{arith}
 use mathlib.Core.Path.{_≡_, refl, sym, ap, ap₂, _∙_}
 use mathlib.Core.Bool.{Bool, true, false, cond, not, _&&_}
 use mathlib.Core.List.{List, [], _∷_, _++_, map-append}
 use borrow.Author.Tests.{eqb-true}
-use lib.Dec.{ltb}
+use lib.Dec.{ltb, lit<}
 use lib.ListN.{length, getD, length-map}
 use lib.Seq.{sets}
 use Rattle.lists.proofs.LoopLaws.{Putting, put-next}
@@ -69,6 +69,13 @@ class-written Short = refl
 class-written Medium = refl
 class-written Long = refl
 class-written Noise = refl
+
+-- every written figure is a 32-bit count
+pub written-lt : (c : Class) → writtenAs c < 2 ^ 32
+written-lt Short = lit< tt
+written-lt Medium = lit< tt
+written-lt Long = lit< tt
+written-lt Noise = lit< tt
 
 -- every pulse has the class that it was written in
 pub classes-pulses : (cs : List Class) → classes fixed (pulses cs) ≡ cs
