@@ -5,7 +5,7 @@ use native.Mathlib.Decide.{decLt}
 use native.Mathlib.Omega.{arith}
 use mathlib.Core.Path.{_≡_, refl, sym, ap, _∙_}
 use mathlib.Core.Logic.{_⊎_, inl, inr}
-use mathlib.Core.Bool.{true, false, not, _||_}
+use mathlib.Core.Bool.{true, false, _||_}
 use mathlib.Core.List.{List, [], _∷_, _++_}
 use mathlib.Core.Option.{some}
 use borrow.Author.Tests.{le-ltb, ltb-false, eq-eqb}
@@ -31,7 +31,7 @@ use Rattle.byte.specs.Byte.{byteClasses, twenty, byteAt, isGood, isBad}
 use Rattle.byte.proofs.ByteLaws.{byteAt-written}
 use Rattle.byte.proofs.DamageLaws.{differ-self, byteAt-differ}
 use Rattle.block.specs.Block.{checksum, copyBytes, blockClasses, blockPulses, wrongSize, wrongLeader, writeBlock}
-use Rattle.block.specs.Reading.{startOf, copyTwo, endOf, counted, repaired, placeAt, isLost, valueAt, valuesAt, blockAt, readCopies, readAt, readFound, readFrom, readBlock}
+use Rattle.block.specs.Reading.{startOf, copyTwo, endOf, counted, isMiscounted, repaired, placeAt, isLost, valueAt, valuesAt, blockAt, readCopies, readAt, readFound, readFrom, readBlock}
 use Rattle.block.specs.Damage.{OneSound, DamagedClasses, Damaged}
 use Rattle.block.proofs.BlockLaws.{copy-countdown, copy-value, below-copy, length-blockPulses, leader-right, leader-at, one-at, two-at}
 use Rattle.block.proofs.StartLaws.{start-short}
@@ -89,10 +89,12 @@ module _ (cs : List Class) (o k : ℕ) (payload : List ℕ) {n : ℕ} (long : le
       (ap (twenty cs) e ∙ sym (part-part cs o size (k + 20 * 0) 20 (omega arith)) ∙ d .first ∙ one-at k payload 0 (omega arith)
       ∙ ap byteClasses (copy-countdown 0 payload 0 (lit< tt)))
 
-  leader-short : (i : ℕ) → i < k → getD cs (o + i) Noise ≡ Short
-  leader-short i h =
-      sym (getD-part cs o size i Noise (omega arith)) ∙ sym (getD-take k (part cs o size) i Noise h)
-      ∙ ap (λ (l : List Class). getD l i Noise) (d .outside .leader ∙ leader-at k payload) ∙ getD-replicate k i Short Noise h
+  leader-short : (i : ℕ) → o ≤ i → i < one → getD cs i Noise ≡ Short
+  leader-short i a b =
+      let e : o + (i - o) ≡ i = omega arith in
+      let h : i - o < k = omega arith in
+      ap (λ j. getD cs j Noise) (sym e) ∙ sym (getD-part cs o size (i - o) Noise (omega arith)) ∙ sym (getD-take k (part cs o size) (i - o) Noise h)
+      ∙ ap (λ (l : List Class). getD l (i - o) Noise) (d .outside .leader ∙ leader-at k payload) ∙ getD-replicate k (i - o) Short Noise h
 
   counted-ok : (i : ℕ) → i < 9 → counted cs one two i ≡ true
   unfolding counted
@@ -119,7 +121,7 @@ module _ (cs : List Class) (o k : ℕ) (payload : List ℕ) {n : ℕ} (long : le
   read-there =
       rw (
         le-ltb (length cs) (endOf one n) (omega arith),
-        first-none (λ i. not (counted cs one two i)) 9 0 (λ i _ h. rw (counted-ok i (omega arith))),
+        first-none (isMiscounted cs one two) 9 0 (λ i _ h. rw (counted-ok i (omega arith))),
         first-none (isLost cs one two) (n + 1) 0 (λ i _ h. rw (place-ok i (omega arith))),
         values-ok,
         place-ok n (omega arith),
@@ -127,16 +129,13 @@ module _ (cs : List Class) (o k : ℕ) (payload : List ℕ) {n : ℕ} (long : le
         eq-eqb (checksum payload) (checksum payload) refl,
       )
 
-  -- rule 1, where all between `from` and the block is short
+  -- all five rules, where after `from` only short pulses stand before the block
   module _ (from : ℕ) (lead : 16 ≤ k) (far : from + 16 ≤ one) (before : (i : ℕ) → from < i → i < o → getD cs i Noise ≡ Short) where
     pub start-found : startOf cs from ≡ some one
-    start-found = start-short cs from one far (λ i a b. (let e : o + (i - o) ≡ i = omega arith in rw e at (leader-short (i - o) (omega arith)))) short first-good
+    start-found = start-short cs from one far (λ i a b. leader-short i (omega arith) b) short first-good
       where
         short : (i : ℕ) → from < i → i < one → getD cs i Noise ≡ Short
-        short i a b = elim (decLt i o) [
-          | yes h ↦ before i a h
-          | no h ↦ (let e : o + (i - o) ≡ i = omega arith in rw e at (leader-short (i - o) (omega arith)))
-        ]
+        short i a b = elim (decLt i o) [ yes h ↦ before i a h | no h ↦ leader-short i (omega arith) b ]
 
     pub survives : readFrom cs from n ≡ accepted (blockAt one n payload)
     unfolding readFrom readFound
@@ -144,7 +143,8 @@ module _ (cs : List Class) (o k : ℕ) (payload : List ℕ) {n : ℕ} (long : le
 
 -- ---- On pulses
 
--- the same, of a strip of pulses that are classed with the fixed thresholds
+-- The same of a strip of pulses, each any 32-bit count, classed with the fixed thresholds: it holds from place o on a stretch within the
+-- damage of a written block, and after `from` only short pulses stand before that block.
 module _ (strip : List ℕ) (o k : ℕ) (payload : List ℕ) {n : ℕ} (long : length payload ≡ n) (below : Below 256 payload)
     (d : Damaged k payload (part strip o (length (blockPulses k payload)))) (from : ℕ) (lead : 16 ≤ k) (far : from + 16 ≤ o + k)
     (before : (i : ℕ) → from < i → i < o → classOf fixed (getD strip i 0) ≡ Short) where
@@ -157,11 +157,13 @@ module _ (strip : List ℕ) (o k : ℕ) (payload : List ℕ) {n : ℕ} (long : l
   kept : DamagedClasses k n (blockClasses k payload) (part (classes fixed strip) o (k + 40 * (n + 10) + 122))
   kept = rw (part-map (classOf fixed) strip o (k + 40 * (n + 10) + 122), ← size-block) (rw (classes-pulses (blockClasses k payload), long) at (d .kept))
 
+  -- the rules accept it, with p, end and payload
   pub read-damaged : readFrom (classes fixed strip) from n ≡ accepted (blockAt (o + k) n payload)
   read-damaged =
       survives (classes fixed strip) o k payload long below (rw (length-map strip (classOf fixed)) fits) kept from lead far
       (λ i a b. class-at fixed strip i (omega (arith, fits)) ∙ before i a b)
 
+  -- and so does the reader, for a payload of a right size and enough room
   pub readBlock-damaged : (room : ℕ) → wrongSize n ≡ false → n ≤ room → readBlock (classes fixed strip) room from n ≡ accepted (blockAt (o + k) n payload)
   unfolding readBlock
   readBlock-damaged room size enough = rw (size, le-ltb room n enough) read-damaged
