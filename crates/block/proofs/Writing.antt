@@ -8,7 +8,7 @@ use mathlib.Core.Bool.{true, false}
 use mathlib.Core.List.{List, [], _++_, append-nil, map-append}
 use borrow.Author.Tests.{lt-ltb, le-ltb}
 use lib.Bits.{bitXor}
-use lib.ListN.{length, drop, getD, set, replicate, length-replicate, length-map, drop-of-length-le}
+use lib.ListN.{length, drop, getD, set, replicate, length-replicate, drop-of-length-le}
 use lib.Seq.{sets, drop-cons}
 use Rattle.lists.specs.Buffer.{putAt}
 use Rattle.lists.proofs.BufferLaws.{put-room}
@@ -24,7 +24,7 @@ use Rattle.pulse.specs.declared.Class.the-variants.{Short}
 use Rattle.pulse.specs.Pulse.{writtenAs, pulses}
 use Rattle.pulse.proofs.PulseLaws.{put-pulses}
 use Rattle.byte.specs.Byte.{byteClasses, bytePulses}
-use Rattle.byte.proofs.CodingLaws.{length-byte}
+use Rattle.byte.proofs.CodingLaws.{length-bytePulses}
 use Rattle.block.specs.Block.{xorFrom, checksum, countdown, copyBytes, bytesClasses, copyClasses, copyPulses, trailer, blockClasses, blockPulses, wrongSize, wrongLeader, writeBlock}
 use Rattle.block.proofs.BlockLaws.{bytes-append, length-bytes, length-countdown, length-copy, length-blockPulses}
 
@@ -61,9 +61,6 @@ unfolding trailer
 trailer-put out at long e = rw (e, add-one)
 
 -- ---- Bytes
-
-pub length-bytePulses : (b : ℕ) → length (bytePulses b) ≡ 20
-length-bytePulses b = length-map (byteClasses b) writtenAs ∙ length-byte b
 
 -- a byte put where there is room
 pub put-stored : (out : List ℕ) {out′ : List ℕ} (at b : ℕ) → at + 20 ≤ length out → out′ ≡ putAt out at (bytePulses b) → out′ ≡ sets out at (bytePulses b)

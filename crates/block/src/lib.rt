@@ -187,7 +187,7 @@ fn put_trailer(out: &mut [u32], at: usize)
 
 // ---- Reading
 
-// The first place that a search is for.
+// What a search finds: the first place that passes, or none.
 enum Found {
     At(usize),
     Nothing,

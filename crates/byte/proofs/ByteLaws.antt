@@ -21,13 +21,13 @@ use Rattle.lists.proofs.PlaceLaws.{none-first, tabulate-snoc}
 use Rattle.lists.proofs.Table.{every-at}
 use Rattle.pulse.specs.declared.Class.{Class}
 use Rattle.pulse.specs.declared.Class.the-variants.{Short, Medium, Long, Noise}
-use Rattle.pulse.specs.Pulse.{fixed, classOf, classes, same, writtenAs}
+use Rattle.pulse.specs.Pulse.{fixed, classOf, classes, same}
 use Rattle.pulse.proofs.PulseLaws.{same-eq, classes-pulses}
 use Rattle.byte.specs.declared.ByteRead.{ByteRead}
 use Rattle.byte.specs.declared.ByteRead.the-variants.{Good, Bad}
 use Rattle.byte.specs.Byte.{isOdd, bits, parityBit, coded, byteClasses, bytePulses, pairOf, isSound, bitOf, pairAt, nthPair, nthBit, wrongPair, valueOf, checked, readByte, twenty, byteAt, isGood, isBad}
 use Rattle.byte.proofs.PairLaws.{bit-lt, pair-past}
-use Rattle.byte.proofs.CodingLaws.{coded-append, length-byte, value-lt}
+use Rattle.byte.proofs.CodingLaws.{coded-append, length-byte, length-bytePulses, value-lt}
 
 -- ---- A byte as written is read
 
@@ -185,10 +185,9 @@ module _ (cs : List Class) (p : ℕ) where
 pub byteAt-put : (out : List ℕ) (at b : ℕ) → b < 256 → at + 20 ≤ length out → byteAt (classes fixed (putAt out at (bytePulses b))) at ≡ Good b
 unfolding putAt
 byteAt-put out at b h room =
-    let l : length (bytePulses b) ≡ 20 = length-map (byteClasses b) writtenAs ∙ length-byte b in
     let before = classes fixed (take at out) in
     let after = classes fixed (drop (at + 20) out) in
     byteAt-written (classes fixed (putAt out at (bytePulses b))) at b h
-    (rw (l, le-leb (at + 20) (length out) room, map-append, map-append, classes-pulses, append-assoc)
+    (rw (length-bytePulses b, le-leb (at + 20) (length out) room, map-append, map-append, classes-pulses, append-assoc)
     (ap (take 20) (drop-at before (byteClasses b ++ after) at (length-map (take at out) (classOf fixed) ∙ length-take-le at out (omega arith)))
     ∙ take-at (byteClasses b) after 20 (length-byte b)))

@@ -4,12 +4,13 @@ use native.Mathlib.Nat.{pow-suc}
 use native.Mathlib.Omega.{arith}
 use mathlib.Core.Path.{_≡_, refl, ap, _∙_}
 use mathlib.Core.List.{List, [], _∷_, _++_}
-use lib.ListN.{length, length-append}
+use lib.ListN.{length, length-append, length-map}
 use Rattle.lists.specs.Places.{tabulate}
 use Rattle.lists.proofs.PlaceLaws.{tabulate-snoc, length-tabulate}
 use Rattle.pulse.specs.declared.Class.{Class}
 use Rattle.pulse.specs.declared.Class.the-variants.{Short, Medium}
-use Rattle.byte.specs.Byte.{bits, coded, byteClasses, valueOf}
+use Rattle.pulse.specs.Pulse.{writtenAs}
+use Rattle.byte.specs.Byte.{bits, coded, byteClasses, bytePulses, valueOf}
 
 -- ---- coded
 
@@ -37,6 +38,9 @@ length-bits (suc k) v = ap suc (length-bits k _)
 pub length-byte : (b : ℕ) → length (byteClasses b) ≡ 20
 unfolding byteClasses
 length-byte b = simp (length-coded, length-append, length-bits)
+
+pub length-bytePulses : (b : ℕ) → length (bytePulses b) ≡ 20
+length-bytePulses b = length-map (byteClasses b) writtenAs ∙ length-byte b
 
 -- ---- valueOf
 

@@ -15,7 +15,7 @@ use Rattle.pulse.specs.declared.Class.the-variants.{Short, Medium, Long}
 use Rattle.pulse.specs.Pulse.{writtenAs, pulses}
 use Rattle.pulse.proofs.PulseLaws.{put-pulses}
 use Rattle.byte.specs.Byte.{bits, parityBit, coded, byteClasses, bytePulses}
-use Rattle.byte.proofs.CodingLaws.{coded-append, length-coded, length-bits, length-byte}
+use Rattle.byte.proofs.CodingLaws.{coded-append, length-coded, length-bits, length-bytePulses}
 
 -- ---- A bit
 
@@ -57,7 +57,7 @@ module _ (out₀ : List ℕ) (at b : ℕ) where
 
 pub put-nothing : (out : List ℕ) (at b : ℕ) → length out < at + 20 → (false ≡ hasRoom out at 20) × (out ≡ putAt out at (bytePulses b))
 put-nothing out at b full =
-    (sym (lt-leb (at + 20) (length out) full), sym (put-none out at (bytePulses b) (rw (length-map (byteClasses b) writtenAs, length-byte b) full)))
+    (sym (lt-leb (at + 20) (length out) full), sym (put-none out at (bytePulses b) (rw (length-bytePulses b) full)))
 
 -- the marker, the eight bits, the parity bit
 pub put-whole : (out : List ℕ) (at b : ℕ) {one two three : List ℕ} {parity : ℕ} → at + 20 ≤ length out
@@ -75,5 +75,5 @@ put-whole out at b room e f p g =
     let u₂ = put-pulses eight ninth u₁ f (length-coded (bits 8 b) ∙ ap (λ k. 2 * k) (length-bits 8 b)) (let q : at + 18 ≡ at + 2 + 2 * 8 = omega arith in q) in
     let u₃ = put-next u₂ (pulses ninth) [] (sym (append-nil (pulses ninth))) (rw p at g) refl in (
       sym (le-leb (at + 20) (length out) room),
-      put-done u₃ refl ∙ put-room out at (bytePulses b) (rw (length-map (byteClasses b) writtenAs, length-byte b) room),
+      put-done u₃ refl ∙ put-room out at (bytePulses b) (rw (length-bytePulses b) room),
     )
