@@ -36,7 +36,9 @@ Met o out r out′ = (blockAnswer r ≡ mapped extentOf o) × (out′ ≡ putAt 
 
 pub met-refused : (o : Outcome BlockRead) (out : List ℕ) (reason : Reason) {place : ℕ} {r : BlockAnswer} → o ≡ refuse reason place → r ≡ Refused (refusalAt reason place)
     → Met o out r out
-met-refused o out reason e q = (ap blockAnswer q ∙ told-refused reason e extentOf refl, puts-refused reason out (mapped-refused reason e payloadOf))
+met-refused o out reason {place} e q =
+    let s = refusalAt reason place in
+    (ap blockAnswer q ∙ told-refused s e extentOf refl, puts-refused s out (mapped-refused s e payloadOf))
 
 -- ---- What rules 4 and 5 found
 

@@ -4,24 +4,28 @@ use native.Mathlib.Nat.{zero-add}
 use native.Mathlib.Decide.{decLt}
 use native.Mathlib.Omega.{arith}
 use mathlib.Core.Path.{_≡_, refl, ap, _∙_}
-use mathlib.Core.Bool.{false}
+use mathlib.Core.Bool.{true, false}
 use mathlib.Core.List.{List, [], _∷_, _++_, append-assoc}
-use borrow.Author.Tests.{ltb-false, eqb-false}
+use borrow.Author.Tests.{le-ltb, ltb-false, ne-eqb, eqb-false}
 use lib.Bits.{bitXor, xor-lt}
 use lib.Dec.{eqb, ltb, lit<}
 use lib.ListN.{length, getD, replicate, length-append, length-replicate, length-map, List·getD-append, List·getD-eq-default}
 use lib.Seq.{take-at, getD-append-add}
 use Rattle.lists.specs.Places.{part, Below}
-use Rattle.lists.proofs.BoolLaws.{or-false}
+use Rattle.lists.proofs.BoolLaws.{or-false, cond-first}
 use Rattle.lists.proofs.PlaceLaws.{length-tabulate, getD-tabulate, below-append, below-one}
 use Rattle.lists.proofs.PartLaws.{part-past}
+use Rattle.refusal.specs.declared.Reason.the-variants.{WrongSize, WrongLeader}
+use Rattle.refusal.specs.declared.Refusal.{Refusal}
+use Rattle.refusal.specs.Refusal.{accepted, told, refusalAt}
+use Rattle.refusal.proofs.OutcomeLaws.{accepted-next}
 use Rattle.pulse.specs.declared.Class.{Class}
 use Rattle.pulse.specs.declared.Class.the-variants.{Short}
 use Rattle.pulse.specs.Pulse.{writtenAs}
 use Rattle.byte.specs.Byte.{byteClasses, twenty}
 use Rattle.byte.proofs.CodingLaws.{length-byte}
-use Rattle.block.specs.Block.{xorFrom, checksum, firstByte, countdown, copyBytes, bytesClasses, copyClasses, copyPulses, trailer, blockClasses, blockPulses, wrongSize, wrongLeader}
-use Rattle.block.specs.Reading.{copyTwo}
+use Rattle.block.specs.Block.{xorFrom, checksum, firstByte, countdown, copyBytes, bytesClasses, copyClasses, copyPulses, trailer, blockClasses, blockPulses, wrongSize, wrongLeader, measureBlock, writeBlock}
+use Rattle.block.specs.Reading.{copyTwo, endOf}
 use Rattle.block.specs.Damage.{oneAt, twoAt}
 
 -- ---- bytesClasses
@@ -148,6 +152,17 @@ module _ (k : ℕ) (payload : List ℕ) where
       ∙ part-past trailer fromTwo 61 (20 * i) 20 refl
       ∙ copy-at 1 payload trailer i h)
 
+  -- the 61 pulses after copy two
+  pub after-at : part (blockClasses k payload) (endOf k (length payload)) 61 ≡ trailer
+  unfolding blockClasses trailer
+  after-at =
+      let m = copyPulses (length payload) in
+      let e : endOf k (length payload) ≡ k + (m + (61 + (m + 0))) = omega arith in
+      rw e (part-past (replicate k Short) fromOne k (m + (61 + (m + 0))) 61 (length-replicate k Short)
+      ∙ part-past (copyClasses 0 payload) (trailer ++ fromTwo) m (61 + (m + 0)) 61 (length-copy 0 payload)
+      ∙ part-past trailer fromTwo 61 (m + 0) 61 refl
+      ∙ part-past (copyClasses 1 payload) trailer m 0 61 (length-copy 1 payload))
+
 -- ---- What the writer takes
 
 pub record Within (least most n : ℕ) : Type 0 where
@@ -160,5 +175,35 @@ size-right n e =
     let some : n ≡ 0 → ⊥ = eqb-false n 0 (h .0) in
     record { low = elim (decLt 0 n) [ yes l ↦ l | no l ↦ absurd (some (omega arith)) ]; high = ltb-false 8192 n (h .1) }
 
+pub right-size : (n : ℕ) → Within 1 8192 n → wrongSize n ≡ false
+right-size n w = rw (ne-eqb n 0 (λ e. omega arith), le-ltb 8192 n (w .high))
+
 pub leader-right : (k : ℕ) → wrongLeader k ≡ false → Within 64 65535 k
 leader-right k e = let h = or-false (ltb k 64) (ltb 65535 k) e in record { low = ltb-false k 64 (h .0); high = ltb-false 65535 k (h .1) }
+
+-- ---- measureBlock
+
+-- a block of n payload bytes with a leader of k has this many pulses
+pub record Measured (k n pulses : ℕ) : Type 0 where
+  pub size : wrongSize n ≡ false
+  pub leader : wrongLeader k ≡ false
+  pub count : k + 40 * (n + 10) + 122 ≡ pulses
+
+module _ (k n : ℕ) where
+  pub measure-accepted : (pulses : ℕ) → measureBlock k n ≡ accepted pulses → Measured k n pulses
+  unfolding measureBlock
+  measure-accepted pulses e =
+      let a = accepted-next (wrongSize n) (refusalAt WrongSize 0) _ pulses e in
+      let b = accepted-next (wrongLeader k) (refusalAt WrongLeader 0) _ pulses (a .1) in
+      record { size = a .0; leader = b .0; count = cc }
+
+  -- a payload of a right size is refused for its leader
+  pub measure-refused : (r : Refusal) → wrongSize n ≡ false → measureBlock k n ≡ told r → wrongLeader k ≡ true
+  unfolding measureBlock
+  measure-refused r size e = cond-first (wrongLeader k) _ _ (told r) (λ q. let z : _≡_ {A = ℕ} 0 1 = cc in omega arith) (rw size at e) .0
+
+-- where there is room for a block that was measured, it is written
+pub write-measured : (room k : ℕ) (payload : List ℕ) {pulses : ℕ} → Measured k (length payload) pulses → pulses ≤ room
+    → writeBlock room k payload ≡ accepted (blockPulses k payload)
+unfolding writeBlock measureBlock
+write-measured room k payload m h = rw (m .size, m .leader, m .count, le-ltb room _ h)

@@ -1,5 +1,5 @@
 -- Laws of damage: every strip within the damage of a block is accepted, with the payload; the block as written is one of them.
-use Prim.Native.Nat.{ℕ, _+_, _-_, _*_, _≤_, _<_}
+use Prim.Native.Nat.{ℕ, suc, _+_, _-_, _*_, _≤_, _<_}
 use native.Mathlib.Nat.{zero-add}
 use native.Mathlib.Decide.{decLt}
 use native.Mathlib.Omega.{arith}
@@ -18,30 +18,30 @@ use Rattle.lists.proofs.BoolLaws.{or-right}
 use Rattle.lists.proofs.PlaceLaws.{first-none, tabulate-is}
 use Rattle.lists.proofs.PartLaws.{part-part, getD-part, part-map}
 use Rattle.lists.proofs.BufferLaws.{part-put}
-use Rattle.refusal.specs.declared.Reason.the-variants.{WrongSize, NoRoom, WrongLeader}
-use Rattle.refusal.specs.Refusal.{accepted}
-use Rattle.refusal.proofs.OutcomeLaws.{accepted-next}
+use Rattle.refusal.specs.declared.Reason.the-variants.{NoRoom}
+use Rattle.refusal.specs.Refusal.{accepted, refusalAt}
+use Rattle.refusal.proofs.OutcomeLaws.{accepted-next, then-accepted}
 use Rattle.pulse.specs.declared.Class.{Class}
 use Rattle.pulse.specs.declared.Class.the-variants.{Short, Noise}
 use Rattle.pulse.specs.Pulse.{fixed, classOf, classes, same, writtenAs}
 use Rattle.pulse.proofs.PulseLaws.{class-at, written-lt, classes-pulses}
 use Rattle.byte.specs.declared.ByteRead.{ByteRead}
-use Rattle.byte.specs.declared.ByteRead.the-variants.{Good, Bad}
+use Rattle.byte.specs.declared.ByteRead.the-variants.{Good}
 use Rattle.byte.specs.Byte.{byteClasses, twenty, byteAt, isGood, isBad}
 use Rattle.byte.proofs.ByteLaws.{byteAt-written}
 use Rattle.byte.proofs.DamageLaws.{differ-self, byteAt-differ}
-use Rattle.block.specs.Block.{checksum, copyBytes, blockClasses, blockPulses, wrongSize, wrongLeader, writeBlock}
+use Rattle.block.specs.Block.{checksum, copyBytes, trailer, blockClasses, blockPulses, wrongSize, measureBlock, writeBlock}
 use Rattle.block.specs.Reading.{startOf, copyTwo, endOf, counted, isMiscounted, repaired, placeAt, isLost, valueAt, valuesAt, blockAt, readCopies, readAt, readFound, readFrom, readBlock}
 use Rattle.block.specs.Damage.{OneSound, DamagedClasses, Damaged}
-use Rattle.block.proofs.BlockLaws.{copy-countdown, copy-value, below-copy, length-blockPulses, leader-right, leader-at, one-at, two-at}
+use Rattle.block.proofs.BlockLaws.{copy-countdown, copy-value, below-copy, length-blockPulses, leader-right, measure-accepted, leader-at, one-at, two-at, after-at}
 use Rattle.block.proofs.StartLaws.{start-short}
+use Rattle.block.proofs.ReadingLaws.{repaired-one, repaired-two, read-room}
 
 -- ---- A byte place of which one copy is sound
 
-repaired-right : (a : ℕ) (r other : ByteRead) → (isBad r ≡ true) ⊎ (r ≡ Good a) → other ≡ Good a → repaired r other ≡ Good a
-repaired-right a (Good v) other (inl h) e = absurd (let z : _≡_ {A = ℕ} 0 1 = cc in omega arith)
-repaired-right a (Good v) other (inr h) e = h
-repaired-right a Bad other h e = e
+repaired-right : (a : ℕ) (one two : ByteRead) → (isBad one ≡ true) ⊎ (one ≡ Good a) → two ≡ Good a → repaired one two ≡ Good a
+repaired-right a one two (inl h) e = repaired-two one two h ∙ e
+repaired-right a one two (inr h) e = repaired-one a one two h
 
 module _ (cs : List Class) (one two a : ℕ) (small : a < 256) where
   -- in the countdown, with the value of each copy
@@ -54,7 +54,7 @@ module _ (cs : List Class) (one two a : ℕ) (small : a < 256) where
   -- after it, with one value
   sound-repaired : one + 20 ≤ length cs → OneSound (byteClasses a) (twenty cs one) (byteClasses a) (twenty cs two)
       → repaired (byteAt cs one) (byteAt cs two) ≡ Good a
-  sound-repaired within (inl s) = rw (byteAt-written cs one a small (s .0))
+  sound-repaired within (inl s) = repaired-one a (byteAt cs one) (byteAt cs two) (byteAt-written cs one a small (s .0))
   sound-repaired within (inr s) =
       repaired-right a (byteAt cs one) (byteAt cs two) (byteAt-differ cs one a small within (s .1)) (byteAt-written cs two a small (s .0))
 
@@ -144,10 +144,8 @@ module _ (cs : List Class) (o k : ℕ) (payload : List ℕ) {n : ℕ} (long : le
 -- ---- On pulses
 
 -- The same of a strip of pulses, each any 32-bit count, classed with the fixed thresholds: it holds from place o on a stretch within the
--- damage of a written block, and after `from` only short pulses stand before that block.
-module _ (strip : List ℕ) (o k : ℕ) (payload : List ℕ) {n : ℕ} (long : length payload ≡ n) (below : Below 256 payload)
-    (d : Damaged k payload (part strip o (length (blockPulses k payload)))) (from : ℕ) (lead : 16 ≤ k) (far : from + 16 ≤ o + k)
-    (before : (i : ℕ) → from < i → i < o → classOf fixed (getD strip i 0) ≡ Short) where
+-- damage of a written block.
+module _ (strip : List ℕ) (o k : ℕ) (payload : List ℕ) {n : ℕ} (long : length payload ≡ n) (d : Damaged k payload (part strip o (length (blockPulses k payload)))) where
   size-block : length (blockPulses k payload) ≡ k + 40 * (n + 10) + 122
   size-block = rw (← long) (length-blockPulses k payload)
 
@@ -157,16 +155,31 @@ module _ (strip : List ℕ) (o k : ℕ) (payload : List ℕ) {n : ℕ} (long : l
   kept : DamagedClasses k n (blockClasses k payload) (part (classes fixed strip) o (k + 40 * (n + 10) + 122))
   kept = rw (part-map (classOf fixed) strip o (k + 40 * (n + 10) + 122), ← size-block) (rw (classes-pulses (blockClasses k payload), long) at (d .kept))
 
-  -- the rules accept it, with p, end and payload
-  pub read-damaged : readFrom (classes fixed strip) from n ≡ accepted (blockAt (o + k) n payload)
-  read-damaged =
-      survives (classes fixed strip) o k payload long below (rw (length-map strip (classOf fixed)) fits) kept from lead far
-      (λ i a b. class-at fixed strip i (omega (arith, fits)) ∙ before i a b)
+  -- between the pulse after the block's end and the end of its trailer only short pulses stand
+  pub after-short : (i : ℕ) → endOf (o + k) n < i → i < o + (k + 40 * (n + 10) + 122) → classOf fixed (getD strip i 0) ≡ Short
+  unfolding trailer
+  after-short i a b =
+      let cs = classes fixed strip in
+      let j = i - (o + endOf k n) - 1 in
+      let e : o + endOf k n + suc j ≡ i = omega arith in
+      let w : part (blockClasses k payload) (endOf k n) 61 ≡ trailer = rw (← long) (after-at k payload) in
+      let t : part cs (o + endOf k n) 61 ≡ trailer = sym (part-part cs o (k + 40 * (n + 10) + 122) (endOf k n) 61 (omega arith)) ∙ kept .outside .after ∙ w in
+      sym (class-at fixed strip i (omega (arith, fits)))
+      ∙ ap (λ p. getD cs p Noise) (sym e) ∙ sym (getD-part cs (o + endOf k n) 61 (suc j) Noise (omega arith))
+      ∙ ap (λ (l : List Class). getD l (suc j) Noise) t ∙ getD-replicate 60 j Short Noise (omega arith)
 
-  -- and so does the reader, for a payload of a right size and enough room
-  pub readBlock-damaged : (room : ℕ) → wrongSize n ≡ false → n ≤ room → readBlock (classes fixed strip) room from n ≡ accepted (blockAt (o + k) n payload)
-  unfolding readBlock
-  readBlock-damaged room size enough = rw (size, le-ltb room n enough) read-damaged
+  -- Where after `from` only short pulses stand before that block,
+  module _ (below : Below 256 payload) (from : ℕ) (lead : 16 ≤ k) (far : from + 16 ≤ o + k)
+      (before : (i : ℕ) → from < i → i < o → classOf fixed (getD strip i 0) ≡ Short) where
+    -- the rules accept it, with p, end and payload
+    pub read-damaged : readFrom (classes fixed strip) from n ≡ accepted (blockAt (o + k) n payload)
+    read-damaged =
+        survives (classes fixed strip) o k payload long below (rw (length-map strip (classOf fixed)) fits) kept from lead far
+        (λ i a b. class-at fixed strip i (omega (arith, fits)) ∙ before i a b)
+
+    -- and so does the reader, for a payload of a right size and enough room
+    pub readBlock-damaged : (room : ℕ) → wrongSize n ≡ false → n ≤ room → readBlock (classes fixed strip) room from n ≡ accepted (blockAt (o + k) n payload)
+    readBlock-damaged room size enough = read-room (classes fixed strip) room from n size enough ∙ read-damaged
 
 -- ---- The block as written
 
@@ -190,10 +203,11 @@ written : (room k : ℕ) (payload strip : List ℕ) → writeBlock room k payloa
     → (wrongSize (length payload) ≡ false) × (64 ≤ k) × (length (blockPulses k payload) ≤ room) × (blockPulses k payload ≡ strip)
 unfolding writeBlock
 written room k payload strip e =
-    let a = accepted-next (wrongSize (length payload)) WrongSize _ strip e in
-    let b = accepted-next (wrongLeader k) WrongLeader _ strip (a .1) in
-    let c = accepted-next (ltb room (length (blockPulses k payload))) NoRoom _ strip (b .1) in
-    (a .0, leader-right k (b .0) .low, ltb-false room (length (blockPulses k payload)) (c .0), cc)
+    let a = then-accepted (measureBlock k (length payload)) _ strip e in
+    let m = measure-accepted k (length payload) (a .0) (a .1) in
+    let b = accepted-next (ltb room (a .0)) (refusalAt NoRoom 0) _ strip (a .2) in
+    let fits : a .0 ≤ room = ltb-false room (a .0) (b .0) in
+    (m .size, leader-right k (m .leader) .low, rw (length-blockPulses k payload ∙ m .count) fits, cc)
 
 -- what the writer put is read, from place 0 on
 pub readBlock-written : (room k : ℕ) (payload strip out : List ℕ) → writeBlock room k payload ≡ accepted strip → Below 256 payload → length out ≡ room
@@ -203,6 +217,6 @@ readBlock-written room k payload strip out e below long enough h =
     let w = written room k payload strip e in
     let there = part-put out 0 (blockPulses k payload) (omega arith) in
     rw (← (w .3))
-    (readBlock-damaged (putAt out 0 (blockPulses k payload)) 0 k payload refl below (rw there (undamaged k payload)) 0 (omega arith) (omega arith) (λ i a b. absurd (omega arith))
+    (readBlock-damaged (putAt out 0 (blockPulses k payload)) 0 k payload refl (rw there (undamaged k payload)) below 0 (omega arith) (omega arith) (λ i a b. absurd (omega arith))
     enough (w .0) h
     ∙ ap (λ start. accepted (blockAt start (length payload) payload)) (zero-add k))

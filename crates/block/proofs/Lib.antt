@@ -5,4 +5,5 @@ mod Checking
 mod Answers
 pub mod BlockLaws
 pub mod StartLaws
+pub mod ReadingLaws
 pub mod DamageLaws

@@ -13,20 +13,20 @@ use lib.Seq.{sets, drop-cons}
 use Rattle.lists.specs.Buffer.{putAt}
 use Rattle.lists.proofs.BufferLaws.{put-room}
 use Rattle.lists.proofs.LoopLaws.{Putting, put-begun, put-next, put-one, put-done}
-use Rattle.refusal.specs.declared.Reason.{Reason}
 use Rattle.refusal.specs.declared.Reason.the-variants.{WrongSize, NoRoom, WrongLeader}
 use Rattle.refusal.specs.declared.Refusal.{Refusal}
 use Rattle.refusal.specs.declared.Put.{Put}
 use Rattle.refusal.specs.declared.Put.the-variants.{Count, Refused}
-use Rattle.refusal.specs.Refusal.{accepted, refuse, refusalAt, mapped, puts, putAnswer}
-use Rattle.refusal.proofs.OutcomeLaws.{told-refused, puts-refused}
+use Rattle.refusal.specs.Refusal.{Outcome, accepted, refusalAt, told, putAnswer, Written}
+use Rattle.refusal.proofs.OutcomeLaws.{written-refused, written-accepted}
 use Rattle.pulse.specs.declared.Class.the-variants.{Short}
 use Rattle.pulse.specs.Pulse.{writtenAs, pulses}
 use Rattle.pulse.proofs.PulseLaws.{put-pulses}
 use Rattle.byte.specs.Byte.{byteClasses, bytePulses}
 use Rattle.byte.proofs.CodingLaws.{length-bytePulses}
-use Rattle.block.specs.Block.{xorFrom, checksum, countdown, copyBytes, bytesClasses, copyClasses, copyPulses, trailer, blockClasses, blockPulses, wrongSize, wrongLeader, writeBlock}
-use Rattle.block.proofs.BlockLaws.{bytes-append, length-bytes, length-countdown, length-copy, length-blockPulses}
+use Rattle.block.specs.Block.{xorFrom, checksum, countdown, copyBytes, bytesClasses, copyClasses, copyPulses, trailer, blockClasses, blockPulses, wrongSize, wrongLeader, measureBlock, writeBlock}
+use Rattle.block.specs.Reading.{copyTwo, endOf}
+use Rattle.block.proofs.BlockLaws.{bytes-append, length-bytes, length-countdown, length-copy, length-blockPulses, measure-accepted}
 
 -- ---- The checksum
 
@@ -112,56 +112,58 @@ copy-put out at copy payload {row} {one} {two} {three} {sum} room r s e f g =
 
 -- ---- The block
 
--- what the writer answers and leaves in the buffer is what it comes to
-abbrev pub Written : List ℕ → ℕ → List ℕ → Put → List ℕ → Type 0
-Written out k payload r out′ =
-    (putAnswer r ≡ mapped length (writeBlock (length out) k payload)) × (out′ ≡ putAt out 0 (puts (writeBlock (length out) k payload)))
+-- the leader; copy one and its trailer; copy two and its trailer
+pub block-put : (out : List ℕ) (k : ℕ) (payload : List ℕ) {led one oneEnd both bothEnd : List ℕ} → led ≡ sets out 0 (pulses (replicate k Short))
+    → one ≡ sets led k (pulses (copyClasses 0 payload)) → oneEnd ≡ sets one (k + copyPulses (length payload)) (pulses trailer)
+    → both ≡ sets oneEnd (copyTwo k (length payload)) (pulses (copyClasses 1 payload)) → bothEnd ≡ sets both (endOf k (length payload)) (pulses trailer)
+    → bothEnd ≡ sets out 0 (blockPulses k payload)
+unfolding blockClasses trailer
+block-put out k payload e f f′ g g′ =
+    let ks = replicate k Short in
+    let xs = copyClasses 0 payload in
+    let ys = copyClasses 1 payload in
+    let u₀ = put-begun out 0 0 (blockPulses k payload) (blockPulses k payload) refl refl in
+    let u₁ = put-pulses ks (xs ++ (trailer ++ (ys ++ trailer))) u₀ e (length-replicate k Short) (sym (zero-add k)) in
+    let u₂ = put-pulses xs (trailer ++ (ys ++ trailer)) u₁ f (length-copy 0 payload) refl in
+    let u₃ = put-pulses trailer (ys ++ trailer) u₂ f′ refl refl in
+    let u₄ = put-pulses ys trailer u₃ g (length-copy 1 payload) refl in
+    let u₅ = put-next u₄ (pulses trailer) [] (sym (append-nil (pulses trailer))) g′ refl in
+    put-done u₅ refl
+
+-- ---- The number of pulses, known before
+
+module _ (k n : ℕ) where
+  pub size-refused : {r : Refusal} → wrongSize n ≡ true → r ≡ refusalAt WrongSize 0 → told r ≡ measureBlock k n
+  unfolding measureBlock
+  size-refused t q = rw (t, q)
+
+  pub leader-refused : {r : Refusal} → wrongSize n ≡ false → wrongLeader k ≡ true → r ≡ refusalAt WrongLeader 0 → told r ≡ measureBlock k n
+  unfolding measureBlock
+  leader-refused s t q = rw (s, t, q)
+
+  pub measured : {count : ℕ} → wrongSize n ≡ false → wrongLeader k ≡ false → count ≡ k + 40 * (n + 10) + 122 → accepted count ≡ measureBlock k n
+  unfolding measureBlock
+  measured s t q = rw (s, t, q)
+
+-- ---- What the writer comes to
 
 module _ (out : List ℕ) (k : ℕ) (payload : List ℕ) where
-  refused-as : (reason : Reason) {r : Refusal} → writeBlock (length out) k payload ≡ refuse reason 0 → r ≡ refusalAt reason 0 → Written out k payload (Refused r) out
-  refused-as reason e q = (told-refused reason e length q, puts-refused reason out e)
+  abbrev outcome : Outcome (List ℕ)
+  outcome = writeBlock (length out) k payload
 
-  pub wrong-size : {r : Refusal} → wrongSize (length payload) ≡ true → r ≡ refusalAt WrongSize 0 → Written out k payload (Refused r) out
-  unfolding writeBlock
-  wrong-size t = refused-as WrongSize (rw t)
-
-  module _ (size : wrongSize (length payload) ≡ false) where
-    pub wrong-leader : {r : Refusal} → wrongLeader k ≡ true → r ≡ refusalAt WrongLeader 0 → Written out k payload (Refused r) out
+  module _ {p : Put} (e : putAnswer p ≡ measureBlock k (length payload)) where
+    -- refused as it was measured
+    pub unmeasured : (r : Refusal) → p ≡ Refused r → Written outcome out (Refused r) out
     unfolding writeBlock
-    wrong-leader t = refused-as WrongLeader (rw (size, t))
+    unmeasured r q = written-refused outcome out {r = r} {s = r} (rw (← e, q)) refl
 
-    module _ (leader : wrongLeader k ≡ false) where
-      abbrev m : ℕ
-      m = copyPulses (length payload)
-
-      abbrev two : ℕ
-      two = k + m + 61
-
-      abbrev count : ℕ
-      count = two + m + 61
-
-      length-count : length (blockPulses k payload) ≡ count
-      length-count = length-blockPulses k payload ∙ (let z : k + 40 * (length payload + 10) + 122 ≡ count = omega arith in z)
-
-      pub no-room : {r : Refusal} → length out < count → r ≡ refusalAt NoRoom 0 → Written out k payload (Refused r) out
+    module _ {count : ℕ} (q : p ≡ Count count) where
+      pub no-room : {r : Refusal} → length out < count → r ≡ refusalAt NoRoom 0 → Written outcome out (Refused r) out
       unfolding writeBlock
-      no-room h = refused-as NoRoom (rw (size, leader, length-count, lt-ltb (length out) count h))
+      no-room h = written-refused outcome out (rw (← e, q, lt-ltb (length out) count h))
 
-      -- the leader; copy one and its trailer; copy two and its trailer
-      pub whole : {led one oneEnd both bothEnd : List ℕ} → count ≤ length out → led ≡ sets out 0 (pulses (replicate k Short))
-          → one ≡ sets led k (pulses (copyClasses 0 payload)) → oneEnd ≡ sets one (k + m) (pulses trailer)
-          → both ≡ sets oneEnd two (pulses (copyClasses 1 payload)) → bothEnd ≡ sets both (two + m) (pulses trailer)
-          → Written out k payload (Count count) bothEnd
-      unfolding writeBlock blockClasses trailer
-      whole {led} {one} {oneEnd} {both} {bothEnd} room e f f′ g g′ =
-          let ks = replicate k Short in
-          let xs = copyClasses 0 payload in
-          let ys = copyClasses 1 payload in
-          let u₀ = put-begun out 0 0 (blockPulses k payload) (blockPulses k payload) refl refl in
-          let u₁ = put-pulses ks (xs ++ (trailer ++ (ys ++ trailer))) u₀ e (length-replicate k Short) (sym (zero-add k)) in
-          let u₂ = put-pulses xs (trailer ++ (ys ++ trailer)) u₁ f (length-copy 0 payload) refl in
-          let u₃ = put-pulses trailer (ys ++ trailer) u₂ f′ refl refl in
-          let u₄ = put-pulses ys trailer u₃ g (length-copy 1 payload) refl in
-          let u₅ = put-next u₄ (pulses trailer) [] (sym (append-nil (pulses trailer))) g′ refl in
-          let w : writeBlock (length out) k payload ≡ accepted (blockPulses k payload) = rw (size, leader, length-count, le-ltb (length out) count room) in
-          (rw w (ap accepted (sym length-count)), rw w (put-done u₅ refl ∙ put-room out 0 (blockPulses k payload) (rw (length-count, zero-add) room)))
+      pub whole : {out′ : List ℕ} → count ≤ length out → out′ ≡ sets out 0 (blockPulses k payload) → Written outcome out (Count count) out′
+      unfolding writeBlock
+      whole h s =
+          let long : length (blockPulses k payload) ≡ count = length-blockPulses k payload ∙ measure-accepted k (length payload) count (sym e ∙ ap putAnswer q) .count in
+          written-accepted outcome out (rw (← e, q, le-ltb (length out) count h)) long (s ∙ put-room out 0 (blockPulses k payload) (rw (long, zero-add) h))

@@ -7,7 +7,7 @@ use lib.Dec.{eqb, ltb}
 use lib.ListN.{length, replicate}
 use Rattle.lists.specs.Places.{tabulate}
 use Rattle.refusal.specs.declared.Reason.the-variants.{WrongSize, NoRoom, WrongLeader}
-use Rattle.refusal.specs.Refusal.{Outcome, accepted, refuse}
+use Rattle.refusal.specs.Refusal.{Outcome, accepted, refuse, andThen}
 use Rattle.pulse.specs.declared.Class.{Class}
 use Rattle.pulse.specs.declared.Class.the-variants.{Short, Long}
 use Rattle.pulse.specs.Pulse.{pulses}
@@ -70,10 +70,16 @@ wrongSize n = eqb n 0 || ltb 8192 n
 abbrev pub wrongLeader : (k : ℕ) → Bool
 wrongLeader k = ltb k 64 || ltb 65535 k
 
--- what is written into `room` places: refusals 1, 14, 2 in this order, else the block
+-- how many pulses a block of n payload bytes has: refusals 1 and 14 in this order, else K + 40(n + 10) + 122
+unfoldable pub measureBlock : (k n : ℕ) → Outcome ℕ
+measureBlock k n =
+    cond (wrongSize n) (refuse WrongSize 0)
+    (cond (wrongLeader k) (refuse WrongLeader 0)
+    (accepted (k + 40 * (n + 10) + 122)))
+
+-- what is written into `room` places: refusals 1 and 14, then 2, else the block
 unfoldable pub writeBlock : (room k : ℕ) (payload : List ℕ) → Outcome (List ℕ)
 writeBlock room k payload =
-    cond (wrongSize (length payload)) (refuse WrongSize 0)
-    (cond (wrongLeader k) (refuse WrongLeader 0)
-    (cond (ltb room (length (blockPulses k payload))) (refuse NoRoom 0)
-    (accepted (blockPulses k payload))))
+    andThen (measureBlock k (length payload)) (λ count.
+    cond (ltb room count) (refuse NoRoom 0)
+    (accepted (blockPulses k payload)))

@@ -21,7 +21,7 @@ ghost use Rattle.refusal.specs.Refusal.{mapped, puts, putAnswer, refusalAt};
 ghost use Rattle.pulse.specs.Pulse.{fixed, classes, pulses};
 ghost use Rattle.pulse.specs.declared.Class.the-variants.{Short};
 ghost use Rattle.byte.specs.Byte.{byteAt, isGood};
-ghost use Rattle.block.specs.Block.{checksum, bytesClasses, copyClasses, copyPulses, trailer, wrongSize, wrongLeader, writeBlock};
+ghost use Rattle.block.specs.Block.{checksum, bytesClasses, copyClasses, copyPulses, trailer, blockPulses, wrongSize, wrongLeader, measureBlock, writeBlock};
 ghost use Rattle.block.specs.Reading.{startOf, counted, isMiscounted, placeAt, valueOrZero, valuesAt, isLost, sumHolds, readAt, readBlock, blockAnswer, extentOf, payloadOf};
 ghost use Rattle.block.specs.Checks.{foundAt, checkOf};
 
@@ -66,32 +66,36 @@ pub enum BlockAnswer {
     Refused(Refusal),
 }
 
-// Writes a block with a leader of that many short pulses, and answers the number of pulses put. It refuses a payload or a leader of
-// a wrong size and an output that is too short.
-pub fn write_block(payload: &[u8], leader: usize, out: &mut [u32]) -> Put
-    ensures answer { λ r. ⌜ putAnswer r ≡ mapped length (writeBlock (length (now (out .entry))) leader (now (payload .entry))) ⌝ }
-    ensures put { λ _. ⌜ now (out .exit) ≡ putAt (now (out .entry)) 0 (puts (writeBlock (length (now (out .entry))) leader (now (payload .entry)))) ⌝ }
+// The number of pulses that a block of n payload bytes takes, with a leader of that many. It refuses a payload or a leader of a wrong
+// size, as `write_block` does.
+pub fn measure_block(n: usize, leader: usize) -> Put
+    ensures { λ r. ⌜ putAnswer r ≡ measureBlock leader n ⌝ }
 {
-    let n = payload.len();
     if wrong_size(n) {
         return Put::Refused(refusal::at(Reason::WrongSize, 0));
     }
     if wrong_leader(leader) {
         return Put::Refused(refusal::at(Reason::WrongLeader, 0));
     }
-    let copy = byte::BYTE_PULSES * (n + EXTRA_BYTES);
-    let two = leader + copy + TRAILER_PULSES;
-    let count = two + copy + TRAILER_PULSES;
-    if out.len() < count {
-        return Put::Refused(refusal::at(Reason::NoRoom, 0));
+    Put::Count(leader + 2 * (byte::BYTE_PULSES * (n + EXTRA_BYTES) + TRAILER_PULSES))
+}
+
+// Writes a block with a leader of that many short pulses, and answers the number of pulses put. It refuses a payload or a leader of
+// a wrong size and an output that is too short.
+pub fn write_block(payload: &[u8], leader: usize, out: &mut [u32]) -> Put
+    ensures answer { λ r. ⌜ putAnswer r ≡ mapped length (writeBlock (length (now (out .entry))) leader (now (payload .entry))) ⌝ }
+    ensures put { λ _. ⌜ now (out .exit) ≡ putAt (now (out .entry)) 0 (puts (writeBlock (length (now (out .entry))) leader (now (payload .entry)))) ⌝ }
+{
+    match measure_block(payload.len(), leader) {
+        Put::Refused(r) => Put::Refused(r),
+        Put::Count(count) => {
+            if out.len() < count {
+                return Put::Refused(refusal::at(Reason::NoRoom, 0));
+            }
+            put_block(payload, leader, out);
+            Put::Count(count)
+        }
     }
-    let sum = checksum_of(payload);
-    put_shorts(out, 0, leader);
-    put_copy(out, leader, 0, payload, sum);
-    put_trailer(out, leader + copy);
-    put_copy(out, two, 1, payload, sum);
-    put_trailer(out, two + copy);
-    Put::Count(count)
 }
 
 // Reads the block of n payload bytes whose start is the first at or after `from`, and puts its payload. It refuses a wrong n, an output
@@ -126,6 +130,20 @@ fn wrong_leader(leader: usize) -> bool
 }
 
 // ---- Writing
+
+fn put_block(payload: &[u8], leader: usize, out: &mut [u32])
+    requires { ⌜ leader + 40 * (length (now payload) + 10) + 122 ≤ length (now out) ⌝ }
+    ensures { λ _. ⌜ now (out .exit) ≡ sets (now (out .entry)) 0 (blockPulses leader (now (payload .entry))) ⌝ }
+{
+    let copy = byte::BYTE_PULSES * (payload.len() + EXTRA_BYTES);
+    let two = leader + copy + TRAILER_PULSES;
+    let sum = checksum_of(payload);
+    put_shorts(out, 0, leader);
+    put_copy(out, leader, 0, payload, sum);
+    put_trailer(out, leader + copy);
+    put_copy(out, two, 1, payload, sum);
+    put_trailer(out, two + copy);
+}
 
 fn checksum_of(payload: &[u8]) -> u8
     ensures { λ r. ⌜ r ≡ checksum (now (payload .entry)) ⌝ }

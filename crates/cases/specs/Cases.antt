@@ -10,6 +10,10 @@ use Rattle.byte.specs.declared.ByteRead.the-variants.{Good}
 use Rattle.byte.specs.Byte.{parityBit, byteClasses, bytePulses, byteAt}
 use Rattle.block.specs.Block.{checksum, blockPulses, writeBlock}
 use Rattle.block.specs.Reading.{readBlock}
+use Rattle.header.specs.declared.Fields.{Fields}
+use Rattle.header.specs.Header.{headerBytes, fieldsOf}
+use Rattle.file.specs.File.{file, dataBytes, writeFile}
+use Rattle.file.specs.Reading.{readFile}
 
 abbrev pub All : List (Type 0) → Type 0
 All [] = Unit {0}
@@ -23,7 +27,14 @@ swapped i strip = set (set strip i (getD strip (i + 1) 0)) (i + 1) (getD strip i
 abbrev pub turned : ℕ → List ℕ → List ℕ
 turned p strip = swapped (p + 4) (swapped (p + 2) strip)
 
--- the header of a type 1 program from $0801 to $9709, named GAME
+-- a type 1 program from $0801 to $9709, named GAME
+abbrev pub gameFields : Fields
+gameFields = record { kind = 1; start = 0x0801; end = 0x9709 }
+
+abbrev pub gameName : List ℕ
+gameName = 0x47 ∷ 0x41 ∷ 0x4d ∷ 0x45 ∷ []
+
+-- its header
 abbrev pub gameHeader : List ℕ
 gameHeader = 0x01 ∷ 0x01 ∷ 0x08 ∷ 0x09 ∷ 0x97 ∷ 0x47 ∷ 0x41 ∷ 0x4d ∷ 0x45 ∷ replicate 183 0x20
 
@@ -48,7 +59,12 @@ cases =
     ∷ (parityBit 0x07 ≡ 0)
     ∷ (checksum (0x41 ∷ []) ≡ 0x41)
     ∷ (checksum (0x41 ∷ 0x41 ∷ []) ≡ 0x00)
+    ∷ (headerBytes gameFields gameName ≡ gameHeader)
     ∷ (checksum gameHeader ≡ 0xb8)
+    -- as a program file, which would have 36,616 bytes: refused with 9, in reading and in writing
+    ∷ (dataBytes (fieldsOf gameHeader) ≡ 36616)
+    ∷ (readFile (classes fixed (blockPulses 64 gameHeader)) 192 36616 0 ≡ refused 9 0 0)
+    ∷ (writeFile 1000000 (file gameFields gameName (replicate 36616 0x00) 64 64) ≡ refused 9 0 0)
     -- $00 with bits 0 and 1 turned round is a good $03
     ∷ (byteAt (classes fixed (turned 0 (bytePulses 0x00))) 0 ≡ Good 0x03)
     -- the same in copy one's payload place, n = 1: refused with 7, place 1

@@ -1,12 +1,13 @@
 -- Laws of `putAt`, and of the stores that it is made of.
-use Prim.Native.Nat.{ℕ, suc, _+_, _≤_, _<_}
-use native.Mathlib.Nat.{add-zero, add-suc, suc-add}
+use Prim.Native.Nat.{ℕ, suc, _+_, _-_, _≤_, _<_}
+use native.Mathlib.Nat.{zero-add, add-zero, add-suc, suc-add}
+use native.Mathlib.Decide.{decLe}
 use native.Mathlib.Omega.{arith}
 use mathlib.Core.Path.{_≡_, refl, ap, _∙_}
-use mathlib.Core.List.{List, [], _∷_, _++_, append-assoc}
+use mathlib.Core.List.{List, [], _∷_, _++_, append-assoc, append-nil}
 use borrow.Author.Tests.{le-leb, lt-leb}
-use lib.ListN.{length, take, drop, set}
-use lib.Seq.{length-take-le, take-at, drop-at, sets, sets-eq}
+use lib.ListN.{length, take, drop, set, length-append, length-drop, drop-of-length-le}
+use lib.Seq.{length-take-le, take-append-seam, drop-append-seam, take-at, drop-at, drop-drop, take-all, sets, length-sets, sets-eq}
 use Rattle.lists.specs.Places.{part}
 use Rattle.lists.specs.Buffer.{putAt}
 
@@ -20,6 +21,12 @@ pub put-none : (buffer : List ℕ) (at : ℕ) (values : List ℕ) → length buf
 unfolding putAt
 put-none buffer at values h = rw (lt-leb (at + length values) (length buffer) h)
 
+pub length-put : (buffer : List ℕ) (at : ℕ) (values : List ℕ) → length (putAt buffer at values) ≡ length buffer
+length-put buffer at values = elim (decLe (at + length values) (length buffer)) [
+  | yes h ↦ rw (← (put-room buffer at values h)) (length-sets buffer at values)
+  | no h ↦ ap length (put-none buffer at values (omega arith))
+]
+
 -- what was put is there
 pub part-put : (buffer : List ℕ) (at : ℕ) (values : List ℕ) → at + length values ≤ length buffer → part (putAt buffer at values) at (length values) ≡ values
 unfolding putAt
@@ -27,6 +34,56 @@ part-put buffer at values h =
     rw (le-leb (at + length values) (length buffer) h, append-assoc)
     (ap (take (length values)) (drop-at (take at buffer) (values ++ drop (at + length values) buffer) at (length-take-le at buffer (omega arith)))
     ∙ take-at values (drop (at + length values) buffer) (length values) refl)
+
+-- and what stands after it stays
+pub rest-put : (buffer : List ℕ) (at : ℕ) (values : List ℕ) → at + length values ≤ length buffer
+    → drop (at + length values) (putAt buffer at values) ≡ drop (at + length values) buffer
+unfolding putAt
+rest-put buffer at values h =
+    rw (le-leb (at + length values) (length buffer) h)
+    (drop-at (take at buffer ++ values) (drop (at + length values) buffer) (at + length values)
+    (length-append (take at buffer) values ∙ ap (λ n. n + length values) (length-take-le at buffer (omega arith))))
+
+-- values put in front
+pub put-front : (buffer values : List ℕ) → length values ≤ length buffer → putAt buffer 0 values ≡ values ++ drop (length values) buffer
+unfolding putAt
+put-front buffer values h = rw (zero-add, le-leb (length values) (length buffer) h)
+
+-- values that fill the buffer
+pub put-whole : (buffer values : List ℕ) → length values ≡ length buffer → putAt buffer 0 values ≡ values
+put-whole buffer values e =
+    let past : length buffer ≤ length values = omega arith in
+    put-front buffer values (omega arith) ∙ rw (drop-of-length-le buffer past, append-nil)
+
+-- values put behind others, into the part of the buffer after them
+module _ (buffer xs ys : List ℕ) (fits : length xs + length ys ≤ length buffer) where
+  put-append : take (length xs) (putAt buffer 0 xs) ++ putAt (drop (length xs) (putAt buffer 0 xs)) 0 ys ≡ putAt buffer 0 (xs ++ ys)
+  put-append =
+      let long : length (xs ++ ys) ≤ length buffer = rw length-append fits in
+      let room : length ys ≤ length (drop (length xs) buffer) = rw length-drop (omega arith) in
+      rw (
+        put-front buffer xs (omega arith),
+        take-append-seam xs (drop (length xs) buffer),
+        drop-append-seam xs (drop (length xs) buffer),
+        put-front (drop (length xs) buffer) ys room,
+        put-front buffer (xs ++ ys) long,
+        length-append,
+        drop-drop,
+        append-assoc,
+      )
+
+  -- the same as a part that is lent and comes back
+  pub put-lent : {one two : List ℕ} (n : ℕ) → length xs ≡ n → one ≡ putAt buffer 0 xs → two ≡ putAt (part one n (length one - n)) 0 ys
+      → take n one ++ (two ++ drop (length one - n) (drop n one)) ≡ putAt buffer 0 (xs ++ ys)
+  put-lent {one} n e p q =
+      let past : length (drop n one) ≤ length one - n = rw length-drop (omega arith) in
+      rw (q, take-all (length one - n) (drop n one) past, drop-of-length-le (drop n one) past, append-nil, p, ← e) put-append
+
+-- values that reach to the end
+pub sets-last : (values buffer : List ℕ) (at : ℕ) → length buffer ≡ at + length values → sets buffer at values ≡ take at buffer ++ values
+sets-last values buffer at e =
+    let past : length buffer ≤ at + length values = omega arith in
+    sets-eq values buffer at (omega arith) ∙ rw (drop-of-length-le buffer past, append-nil)
 
 -- values in two parts
 pub sets-append : (xs ys buffer : List ℕ) (at : ℕ) → sets buffer at (xs ++ ys) ≡ sets (sets buffer at xs) (at + length xs) ys

@@ -105,6 +105,14 @@ getD-tabulate f zero at i h = absurd (omega arith)
 getD-tabulate f (suc count) at zero h = rw add-zero
 getD-tabulate f (suc count) at (suc i) h = getD-tabulate f count (suc at) i (omega arith) ∙ ap f (let z : suc at + i ≡ at + suc i = omega arith in z)
 
+-- ---- getD
+
+-- inside a list the default does not matter
+pub getD-within : {A : Type 0} (xs : List A) (i : ℕ) (d e : A) → i < length xs → getD xs i d ≡ getD xs i e
+getD-within [] i d e h = absurd (omega arith)
+getD-within (x ∷ xs) zero d e h = refl
+getD-within (x ∷ xs) (suc i) d e h = getD-within xs i d e (omega arith)
+
 -- ---- Below
 
 pub below-append : {bound : ℕ} (xs ys : List ℕ) → Below bound xs → Below bound ys → Below bound (xs ++ ys)

@@ -1,7 +1,10 @@
 -- Refusals (document 01, 'Refusal numbers').
 use Prim.Native.Nat.{ℕ}
+use mathlib.Core.Path.{_≡_}
 use mathlib.Core.List.{List, []}
 use mathlib.Core.Option.{Option, none, some}
+use lib.ListN.{length}
+use Rattle.lists.specs.Buffer.{putAt}
 use Rattle.refusal.specs.declared.Reason.{Reason}
 use Rattle.refusal.specs.declared.Reason.the-variants.{WrongSize, NoRoom, NoStart, CutShort, WrongCountdown, LostByte, WrongChecksum, WrongType, WrongAddresses, WrongTapHeader, WrongTapVersion, CutLongForm, NoTapForm, WrongLeader}
 use Rattle.refusal.specs.declared.Refusal.{Refusal}
@@ -53,6 +56,10 @@ refusalAt reason place = record { reason = reason; block = 0; place = place }
 abbrev pub told : {A : Type 0} → Refusal → Outcome A
 told r = refused (numberOf (r .reason)) (r .block) (r .place)
 
+-- the same refusal, of another block
+abbrev pub refusalIn : (block : ℕ) → Refusal → Refusal
+refusalIn block r = record { reason = r .reason; block = block; place = r .place }
+
 abbrev pub refuse : {A : Type 0} (reason : Reason) (place : ℕ) → Outcome A
 refuse reason place = told (refusalAt reason place)
 
@@ -66,6 +73,16 @@ abbrev pub mapped : {A B : Type 0} → (A → B) → Outcome A → Outcome B
 mapped f (refused number block place) = refused number block place
 mapped f (accepted given) = accepted (f given)
 
+-- a refusal names this block
+abbrev pub inBlock : {A : Type 0} (block : ℕ) → Outcome A → Outcome A
+inBlock block (refused number other place) = refused number block place
+inBlock block (accepted given) = accepted given
+
+-- the same refusal, or what a function comes to with what is given
+abbrev pub andThen : {A B : Type 0} → Outcome A → (A → Outcome B) → Outcome B
+andThen (refused number block place) next = refused number block place
+andThen (accepted given) next = next given
+
 -- what is put into a lent buffer; a refusal puts nothing
 abbrev pub puts : Outcome (List ℕ) → List ℕ
 puts (refused number block place) = []
@@ -75,3 +92,7 @@ puts (accepted given) = given
 abbrev pub putAnswer : Put → Outcome ℕ
 putAnswer (Count n) = accepted n
 putAnswer (Refused r) = told r
+
+-- what a writer promises: it answers r and leaves out′ in the buffer that held out, as the outcome says
+abbrev pub Written : (o : Outcome (List ℕ)) (out : List ℕ) (r : Put) (out′ : List ℕ) → Type 0
+Written o out r out′ = (putAnswer r ≡ mapped length o) × (out′ ≡ putAt out 0 (puts o))

@@ -1,6 +1,6 @@
 // Refusals. A call that refuses its input tells the reason, the block and the place; it alters nothing in a lent buffer.
 ghost use mathlib.Core.Path.{_≡_};
-ghost use Rattle.refusal.specs.Refusal.{numberOf, refusalAt};
+ghost use Rattle.refusal.specs.Refusal.{numberOf, refusalAt, refusalIn};
 
 // The reasons, in the order of their numbers.
 pub enum Reason {
@@ -63,5 +63,17 @@ pub fn at(reason: Reason, place: usize) -> Refusal
         reason,
         block: 0,
         place,
+    }
+}
+
+// The same refusal, of another block.
+pub fn in_block(r: Refusal, block: u32) -> Refusal
+    ensures { λ s. ⌜ s ≡ refusalIn block r ⌝ }
+{
+    let reason = r.reason;
+    Refusal {
+        reason,
+        block,
+        place: r.place,
     }
 }

@@ -1,0 +1,4 @@
+mod Writing
+mod Loading
+pub mod FileLaws
+pub mod Demand3

@@ -1,0 +1,57 @@
+-- `file::read_file` meets its contract: a header that is refused, and else what follows the header that was read.
+use borrow.Author.Needs.{needs}
+use denote.Ref.{now}
+use Rattle.pulse.specs.Pulse.{fixed, classes}
+use Rattle.file.proofs.Loading.{no-header, with-header}
+use Rattle.file.proofs.read_file.Statement.{statement}
+use Rattle.file.proofs.read_file.Tie as tie
+
+slice-aggregate-read-block : tie.Need-slice-aggregate-read-block
+slice-aggregate-read-block c = search needs
+
+read-block-requires : tie.Need-read-block-requires
+read-block-requires c κs = search needs
+
+enum-known-r : tie.Need-enum-known-r
+enum-known-r c = search needs
+
+enum-known-e : tie.Need-enum-known-e
+enum-known-e c = search needs
+
+read-data-requires : tie.Need-read-data-requires
+read-data-requires c κs = search needs
+
+returns : tie.Need-returns
+returns c =
+    let m = c .before .before .before .before in
+    let a = m .before .before .before .before .before .args in
+    no-header (classes fixed (now (a .strip))) (now (a .header)) (now (a .bytes)) (a .from) (m .read-block .ensures .0) (c .before .r .given .1)
+
+same-length : tie.Need-same-length
+same-length c = search needs
+
+same-length-2 : tie.Need-same-length-2
+same-length-2 c = search needs
+
+returns-2 : tie.Need-returns-2
+returns-2 c =
+    let d = c .before .before .before .before in
+    let x = d .before .before .before .before in
+    let m = x .before .before .before in
+    let a = m .before .before .before .before .before .args in
+    with-header (classes fixed (now (a .strip))) (now (a .header)) (now (a .bytes)) (a .from) (m .read-block .ensures .0) (d .read-data .result) (x .e .given .1)
+    (m .read-block .ensures .1) (d .read-data .ensures)
+
+pub read-file-spec : {M : Type 1} → statement M
+read-file-spec =
+    tie.close
+    (tie.spec
+    slice-aggregate-read-block
+    read-block-requires
+    enum-known-r
+    enum-known-e
+    read-data-requires
+    returns
+    same-length
+    same-length-2
+    returns-2)

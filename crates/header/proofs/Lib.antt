@@ -1,0 +1,3 @@
+mod Packing
+mod Unpacking
+pub mod HeaderLaws
