@@ -181,6 +181,9 @@ right-size n w = rw (ne-eqb n 0 (λ e. omega arith), le-ltb 8192 n (w .high))
 pub leader-right : (k : ℕ) → wrongLeader k ≡ false → Within 64 65535 k
 leader-right k e = let h = or-false (ltb k 64) (ltb 65535 k) e in record { low = ltb-false k 64 (h .0); high = ltb-false 65535 k (h .1) }
 
+pub right-leader : (k : ℕ) → Within 64 65535 k → wrongLeader k ≡ false
+right-leader k w = rw (le-ltb k 64 (w .low), le-ltb 65535 k (w .high))
+
 -- ---- measureBlock
 
 -- a block of n payload bytes with a leader of k has this many pulses

@@ -26,7 +26,7 @@ use Rattle.file.specs.declared.FileAnswer.the-variants.{Accepted, Refuse
 use Rattle.file.specs.File.{File, fileHeader, headerPulses, dataPulses, filePulses, dataBytes, writeFile}
 use Rattle.file.specs.Reading.{FileRead, loadedOf, bytesOf, readFile, fileAnswer}
 use Rattle.file.specs.Damage.{FileDamaged, Sent, Enough, Reads, Returned, SameFile}
-use Rattle.file.proofs.FileLaws.{Right, file-accepted, addresses-right, length-filePulses, file-read}
+use Rattle.file.proofs.FileLaws.{Right, accepted-right, length-filePulses, file-read}
 
 -- what the file is read as
 abbrev pub asWritten : File → (strip : List ℕ) → FileRead
@@ -52,7 +52,7 @@ module _ {f : File} {out out′ : List ℕ} {count : ℕ} (sent : Sent f out cou
   accepts : Right f × (length (filePulses f) ≡ count) × (writeFile (length out) f ≡ accepted (filePulses f)) × (length (filePulses f) ≤ length out)
   accepts =
       let w = mapped-accepted length (writeFile (length out) f) (sent .wrote .0) in
-      let a = file-accepted (length out) f (w .0) (w .1) in
+      let a = accepted-right (length out) f (w .0) (w .1) in
       (a .0, ap length (a .2) ∙ w .2, w .1 ∙ ap accepted (sym (a .2)), a .1)
 
   -- ---- The strip lies within its damage
@@ -70,7 +70,7 @@ module _ {f : File} {out out′ : List ℕ} {count : ℕ} (sent : Sent f out cou
         let p = 0 + length (headerPulses f) + f .leader₁ in
         let r = file-read f (sent .typed) (accepts .0) strip 0 (rw (whole, long) d) 0 (omega (arith, accepts .0 .leader₀ .low)) (λ i x y. absurd (omega arith)) headerRoom dataRoom h b in
         let size : length (dataPulses f) ≡ f .leader₁ + 40 * (n + 10) + 122 =
-        length-blockPulses (f .leader₁) (f .bytes) ∙ ap (λ k. f .leader₁ + 40 * (k + 10) + 122) (accepts .0 .size)
+        length-blockPulses (f .leader₁) (f .bytes) ∙ ap (λ k. f .leader₁ + 40 * (k + 10) + 122) (sym (accepts .0 .size))
         in
         let stop : endOf p n ≡ length strip - 61 = omega (arith, d .long, length-filePulses f) in
         r ∙ rw (fields-header (f .fields) (f .name), stop)
@@ -94,8 +94,8 @@ module _ {f : File} {out out′ : List ℕ} {count : ℕ} (sent : Sent f out cou
 module _ {f g : File} {out out′ other other′ : List ℕ} {count count′ : ℕ} (sent : Sent f out count out′) (sent′ : Sent g other count′ other′) {strip : List ℕ} where
   pub same-file : FileDamaged f count strip → FileDamaged g count′ strip → SameFile f g
   same-file d d′ =
-      let e = readFile-damaged sent d 192 8192 (lit≤ tt) (addresses-right (f .fields) (accepts sent .0 .addresses) .high) in
-      let e′ = readFile-damaged sent′ d′ 192 8192 (lit≤ tt) (addresses-right (g .fields) (accepts sent′ .0 .addresses) .high) in
+      let e = readFile-damaged sent d 192 8192 (lit≤ tt) (accepts sent .0 .addresses .high) in
+      let e′ = readFile-damaged sent′ d′ 192 8192 (lit≤ tt) (accepts sent′ .0 .addresses .high) in
       let same : asWritten f strip ≡ asWritten g strip = accepted-once e e′ in
       record {
         fields = ap (λ r. r .loaded .fields) same;

@@ -2,10 +2,10 @@
 use Prim.Native.Nat.{ℕ, _+_, _*_, _≤_, _<_}
 use native.Mathlib.Omega.{arith}
 use mathlib.Core.Path.{_≡_, sym, ap, _∙_}
-use mathlib.Core.Logic.{inl, inr}
+use mathlib.Core.Logic.{_⊎_, inl, inr}
 use mathlib.Core.Bool.{false, not, _||_}
 use mathlib.Core.List.{List}
-use borrow.Author.Tests.{le-ltb, ltb-false, leb-false, not-false, eqb-true}
+use borrow.Author.Tests.{le-ltb, lt-leb, ltb-false, leb-false, not-false, eq-eqb, eqb-true}
 use lib.Dec.{eqb, leb, ltb, lit<}
 use lib.ListN.{length, getD, length-append}
 use Rattle.lists.specs.Places.{part}
@@ -19,7 +19,7 @@ use Rattle.pulse.specs.Pulse.{fixed, classOf, classes}
 use Rattle.block.specs.Block.{wrongLeader}
 use Rattle.block.specs.Reading.{endOf, blockAt, readFrom}
 use Rattle.block.specs.Damage.{Damaged}
-use Rattle.block.proofs.BlockLaws.{Within, leader-right, length-blockPulses}
+use Rattle.block.proofs.BlockLaws.{Within, leader-right, right-leader, length-blockPulses}
 use Rattle.block.proofs.DamageLaws.{after-short, read-damaged}
 use Rattle.header.specs.declared.Fields.{Fields}
 use Rattle.header.specs.Header.{wrongName, fieldsOf}
@@ -28,38 +28,21 @@ use Rattle.file.specs.File.{File, fileHeader, headerPulses, dataPulses, 
 use Rattle.file.specs.Reading.{BlockReader, fileRead, readData, readFileBy, readFile}
 use Rattle.file.specs.Damage.{FileDamaged, Typed}
 
--- ---- What the writer accepts
+-- ---- The tests in words
 
-pub record Right (f : File) : Type 0 where
-  pub kind : notProgram (f .fields .kind) ≡ false
-  pub addresses : wrongAddresses (f .fields) ≡ false
-  pub size : length (f .bytes) ≡ dataBytes (f .fields)
-  pub leader₀ : Within 64 65535 (f .leader₀)
-  pub leader₁ : Within 64 65535 (f .leader₁)
-  pub name : length (f .name) ≤ 187
+kind-right : (kind : ℕ) → notProgram kind ≡ false → (kind ≡ 1) ⊎ (kind ≡ 3)
+kind-right kind e = elim (or-true (eqb kind 1) (eqb kind 3) (not-false (eqb kind 1 || eqb kind 3) e)) [
+  | inl h ↦ inl (eqb-true kind 1 h)
+  | inr h ↦ inr (eqb-true kind 3 h)
+]
 
-pub file-accepted : (room : ℕ) (f : File) (strip : List ℕ) → writeFile room f ≡ accepted strip
-    → Right f × (length (filePulses f) ≤ room) × (filePulses f ≡ strip)
-unfolding writeFile writeBlocks
-file-accepted room f strip e =
-    let n = accepted-next (wrongName (length (f .name))) (refusalAt WrongSize 0) _ strip e in
-    let k = accepted-next (notProgram (f .fields .kind)) (refusalAt WrongType 0) _ strip (n .1) in
-    let a = accepted-next (wrongAddresses (f .fields) || not (eqb (dataBytes (f .fields)) (length (f .bytes)))) (refusalAt WrongAddresses 0) _ strip (k .1) in
-    let l₀ = accepted-next (wrongLeader (f .leader₀)) (refusalAt WrongLeader 0) _ strip (a .1) in
-    let l₁ = accepted-next (wrongLeader (f .leader₁)) (refusalIn 1 (refusalAt WrongLeader 0)) _ strip (l₀ .1) in
-    let r = accepted-next (ltb room (length (filePulses f))) (refusalAt NoRoom 0) _ strip (l₁ .1) in
-    let w = or-false (wrongAddresses (f .fields)) (not (eqb (dataBytes (f .fields)) (length (f .bytes)))) (a .0) in (
-      record {
-        kind = k .0;
-        addresses = w .0;
-        size = sym (eqb-true (dataBytes (f .fields)) (length (f .bytes)) (not-false (eqb (dataBytes (f .fields)) (length (f .bytes))) (w .1)));
-        leader₀ = leader-right (f .leader₀) (l₀ .0);
-        leader₁ = leader-right (f .leader₁) (l₁ .0);
-        name = ltb-false 187 (length (f .name)) (n .0);
-      },
-      ltb-false room (length (filePulses f)) (r .0),
-      cc,
-    )
+right-kind : (kind : ℕ) → (kind ≡ 1) ⊎ (kind ≡ 3) → notProgram kind ≡ false
+right-kind kind (inl e) = rw e
+right-kind kind (inr e) = rw e
+
+kind-lt : (kind : ℕ) → (kind ≡ 1) ⊎ (kind ≡ 3) → kind < 256
+kind-lt kind (inl e) = rw e (lit< tt)
+kind-lt kind (inr e) = rw e (lit< tt)
 
 -- the data block of right addresses has 1 to 8,192 bytes
 pub addresses-right : (f : Fields) → wrongAddresses f ≡ false → Within 1 8192 (dataBytes f)
@@ -69,6 +52,55 @@ addresses-right f e =
     let high : f .end ≤ f .start + 8192 = ltb-false (f .start + 8192) (f .end) (w .1) in
     record { low = omega arith; high = omega arith }
 
+right-addresses : (f : Fields) → Within 1 8192 (dataBytes f) → wrongAddresses f ≡ false
+right-addresses f w = rw (lt-leb (f .end) (f .start) (omega arith), le-ltb (f .start + 8192) (f .end) (omega arith))
+
+-- ---- What the writer accepts
+
+pub record Right (f : File) : Type 0 where
+  pub name : length (f .name) ≤ 187
+  pub kind : (f .fields .kind ≡ 1) ⊎ (f .fields .kind ≡ 3)
+  pub addresses : Within 1 8192 (dataBytes (f .fields))
+  pub size : dataBytes (f .fields) ≡ length (f .bytes)
+  pub leader₀ : Within 64 65535 (f .leader₀)
+  pub leader₁ : Within 64 65535 (f .leader₁)
+
+pub accepted-right : (room : ℕ) (f : File) (strip : List ℕ) → writeFile room f ≡ accepted strip → Right f × (length (filePulses f) ≤ room) × (filePulses f ≡ strip)
+unfolding writeFile writeBlocks
+accepted-right room f strip e =
+    let n = accepted-next (wrongName (length (f .name))) (refusalAt WrongSize 0) _ strip e in
+    let k = accepted-next (notProgram (f .fields .kind)) (refusalAt WrongType 0) _ strip (n .1) in
+    let a = accepted-next (wrongAddresses (f .fields) || not (eqb (dataBytes (f .fields)) (length (f .bytes)))) (refusalAt WrongAddresses 0) _ strip (k .1) in
+    let l₀ = accepted-next (wrongLeader (f .leader₀)) (refusalAt WrongLeader 0) _ strip (a .1) in
+    let l₁ = accepted-next (wrongLeader (f .leader₁)) (refusalIn 1 (refusalAt WrongLeader 0)) _ strip (l₀ .1) in
+    let r = accepted-next (ltb room (length (filePulses f))) (refusalAt NoRoom 0) _ strip (l₁ .1) in
+    let w = or-false (wrongAddresses (f .fields)) (not (eqb (dataBytes (f .fields)) (length (f .bytes)))) (a .0) in (
+      record {
+        name = ltb-false 187 (length (f .name)) (n .0);
+        kind = kind-right (f .fields .kind) (k .0);
+        addresses = addresses-right (f .fields) (w .0);
+        size = eqb-true (dataBytes (f .fields)) (length (f .bytes)) (not-false (eqb (dataBytes (f .fields)) (length (f .bytes))) (w .1));
+        leader₀ = leader-right (f .leader₀) (l₀ .0);
+        leader₁ = leader-right (f .leader₁) (l₁ .0);
+      },
+      ltb-false room (length (filePulses f)) (r .0),
+      cc,
+    )
+
+-- it accepts every such file, where there is room
+pub right-accepted : (room : ℕ) (f : File) → Right f → length (filePulses f) ≤ room → writeFile room f ≡ accepted (filePulses f)
+unfolding writeFile writeBlocks
+right-accepted room f right fits =
+    rw (
+      le-ltb 187 (length (f .name)) (right .name),
+      right-kind (f .fields .kind) (right .kind),
+      right-addresses (f .fields) (right .addresses),
+      eq-eqb (dataBytes (f .fields)) (length (f .bytes)) (right .size),
+      right-leader (f .leader₀) (right .leader₀),
+      right-leader (f .leader₁) (right .leader₁),
+      le-ltb room (length (filePulses f)) fits,
+    )
+
 -- ---- Lengths
 
 module _ (f : File) where
@@ -77,14 +109,6 @@ module _ (f : File) where
 
   pub length-filePulses : length (filePulses f) ≡ length (headerPulses f) + length (dataPulses f)
   length-filePulses = length-append (headerPulses f) (dataPulses f)
-
--- ---- A program file's type is a byte
-
-kind-lt : (kind : ℕ) → notProgram kind ≡ false → kind < 256
-kind-lt kind e = elim (or-true (eqb kind 1) (eqb kind 3) (not-false (eqb kind 1 || eqb kind 3) e)) [
-  | inl h ↦ rw (eqb-true kind 1 h) (lit< tt)
-  | inr h ↦ rw (eqb-true kind 3 h) (lit< tt)
-]
 
 -- ---- Both blocks accepted make the file
 
@@ -97,7 +121,7 @@ file-by f right read headerRoom dataRoom from p₀ p₁ h b one two =
     let same : fieldsOf (fileHeader f) ≡ f .fields = fields-header (f .fields) (f .name) in
     let n = dataBytes (f .fields) in
     let e : readData read headerRoom dataRoom (endOf p₀ 192) (fileHeader f) ≡ mapped (fileRead (fileHeader f)) (inBlock 1 (read (endOf p₀ 192) n)) =
-    rw (same, right .kind, right .addresses, le-ltb headerRoom 192 h, le-ltb dataRoom n b)
+    rw (same, right-kind (f .fields .kind) (right .kind), right-addresses (f .fields) (right .addresses), le-ltb headerRoom 192 h, le-ltb dataRoom n b)
     in
     rw one (e ∙ rw two)
 
@@ -135,7 +159,7 @@ module _ (f : File) (typed : Typed f) (right : Right f) (strip : List ℕ) (o : 
   data-read : readFrom (classes fixed strip) (endOf (o + k₀) 192) n ≡ accepted (blockAt (o₁ + k₁) n (f .bytes))
   data-read =
       let l = length-headerPulses f in
-      read-damaged strip o₁ k₁ (f .bytes) (right .size) two (typed .bytes) (endOf (o + k₀) 192) (omega (arith, right .leader₁ .low)) (omega (arith, right .leader₁ .low))
+      read-damaged strip o₁ k₁ (f .bytes) (sym (right .size)) two (typed .bytes) (endOf (o + k₀) 192) (omega (arith, right .leader₁ .low)) (omega (arith, right .leader₁ .low))
       (λ i a b. after-short strip o k₀ (fileHeader f) (length-header (f .fields) (f .name)) one i a (omega arith))
 
   pub file-read : (headerRoom dataRoom : ℕ) → 192 ≤ headerRoom → n ≤ dataRoom

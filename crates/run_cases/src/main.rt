@@ -1,10 +1,13 @@
-// The cases of document 01 on blocks that are run and compared: the largest payload, one byte more, a leader that is too short, and
-// how many short pulses a start needs before it.
+// The cases of document 01 that are run and compared: the largest payload, one byte more, a leader that is too short, how many short
+// pulses a start needs before it; and its example of a program file, damaged and read back.
 use block::BlockAnswer;
+use file::FileAnswer;
+use header::Fields;
 use libc::STDOUT_FILENO;
 use refusal::Put;
 use refusal::Refusal;
-ghost use Prim.Native.Nat.{_≤_};
+ghost use Prim.Native.Nat.{_+_, _≤_};
+ghost use lib.ListN.{length};
 
 const LEADER: usize = 64;
 
@@ -12,6 +15,14 @@ const LEADER: usize = 64;
 const SMALL_STRIP: usize = 626;
 
 const LARGE_STRIP: usize = 328266;
+
+// The pulses of the program file with 16 bytes.
+const FILE_STRIP: usize = 9492;
+
+// Where the first payload byte stands in copy one of its header block, and in copy two of its data block.
+const HEADER_BYTE: usize = LEADER + 20 * 9;
+
+const DATA_BYTE: usize = 8266 + LEADER + 20 * 26 + 61 + 20 * 9;
 
 fn main() {
     say(b"n = 8192\n");
@@ -24,6 +35,8 @@ fn main() {
     shorts_before(15);
     say(b"16 short pulses before $89\n");
     shorts_before(16);
+    say(b"GAME, three pulses of a byte spoilt in each block\n");
+    program_file();
 }
 
 // Writes the largest payload and reads it back.
@@ -63,6 +76,40 @@ fn shorts_before(shorts: usize)
     block::write_block(&payload, LEADER, &mut strip);
     let cut = LEADER - shorts;
     say_block(block::read_block(&strip[cut..], 0, 1, &mut out));
+}
+
+// Writes the program of the example, spoils copy one's first payload byte in the header and copy two's in the data, and reads it back.
+fn program_file() {
+    let mut bytes = [0u8; 16];
+    number_bytes(&mut bytes);
+    let fields = Fields {
+        kind: 1,
+        start: 0x0801,
+        end: 0x0811,
+    };
+    let mut strip = [0u32; FILE_STRIP];
+    let mut header = [0u8; header::HEADER_BYTES];
+    let mut out = [0u8; 16];
+    say_put(file::write_file(fields, b"GAME", &bytes, LEADER, LEADER, &mut strip));
+    spoil(&mut strip, HEADER_BYTE);
+    spoil(&mut strip, DATA_BYTE);
+    say_file(file::read_file(&strip, 0, &mut header, &mut out));
+    say(header::shown_name(&header));
+    say(b"\n");
+    if check::same(&bytes, &out) {
+        say(b"the bytes written\n");
+    } else {
+        say(b"other bytes\n");
+    }
+}
+
+// Turns three pulses into noise.
+fn spoil(strip: &mut [u32], at: usize)
+    requires { ⌜ at + 3 ≤ length (now strip) ⌝ }
+{
+    strip[at] = 0;
+    strip[at + 1] = 0;
+    strip[at + 2] = 0;
 }
 
 fn number_bytes(bytes: &mut [u8]) {
@@ -114,5 +161,20 @@ fn say_block(answer: BlockAnswer) {
             say(b"\n");
         }
         BlockAnswer::Refused(r) => say_refusal(r),
+    }
+}
+
+fn say_file(answer: FileAnswer) {
+    match answer {
+        FileAnswer::Accepted(l) => {
+            let fields = l.fields;
+            say(b"type, start, end, end of the data block:");
+            say_number(fields.kind as usize);
+            say_number(fields.start as usize);
+            say_number(fields.end as usize);
+            say_number(l.stop);
+            say(b"\n");
+        }
+        FileAnswer::Refused(r) => say_refusal(r),
     }
 }
