@@ -10,12 +10,11 @@ use borrow.Author.Tests.{lt-ltb, le-ltb}
 use lib.ListN.{length, length-map}
 use lib.Seq.{sets}
 use Rattle.lists.specs.Places.{firstFrom}
-use Rattle.lists.specs.Buffer.{putAt}
 use Rattle.lists.proofs.PlaceLaws.{length-tabulate, some-first}
 use Rattle.lists.proofs.BufferLaws.{put-room}
 use Rattle.refusal.specs.declared.Reason.{Reason}
 use Rattle.refusal.specs.declared.Reason.the-variants.{WrongSize, NoRoom, NoStart, CutShort, WrongCountdown, LostByte, WrongChecksum}
-use Rattle.refusal.specs.Refusal.{Outcome, accepted, refuse, refusalAt, mapped, puts}
+use Rattle.refusal.specs.Refusal.{Outcome, accepted, refuse, refusalAt}
 use Rattle.refusal.proofs.OutcomeLaws.{mapped-refused, told-refused, puts-refused}
 use Rattle.pulse.specs.declared.Thresholds.{Thresholds}
 use Rattle.pulse.specs.declared.Class.{Class}
@@ -27,15 +26,11 @@ use Rattle.block.specs.declared.Check.the-variants.{Sound, LostAt, Wrong
 use Rattle.block.specs.declared.Found.{Found}
 use Rattle.block.specs.declared.Found.the-variants.{At, Nothing}
 use Rattle.block.specs.Block.{wrongSize}
-use Rattle.block.specs.Reading.{isStart, startOf, copyTwo, endOf, isMiscounted, isLost, valueAt, valuesAt, sumHolds, BlockRead, extentOf, payloadOf, blockAt, readCopies, readAt, readFound, readFrom, readBlock, blockAnswer}
+use Rattle.block.specs.Reading.{isStart, startOf, copyTwo, endOf, isMiscounted, isLost, valueAt, valuesAt, sumHolds, BlockRead, extentOf, payloadOf, blockAt, readCopies, readAt, readFound, readFrom, readBlock, blockAnswer, Reads}
 use Rattle.block.specs.Checks.{foundAt, checkOf}
 
--- the answer r and the buffer afterwards are those of an outcome
-abbrev pub Met : Outcome BlockRead → List ℕ → BlockAnswer → List ℕ → Type 0
-Met o out r out′ = (blockAnswer r ≡ mapped extentOf o) × (out′ ≡ putAt out 0 (puts (mapped payloadOf o)))
-
 pub met-refused : (o : Outcome BlockRead) (out : List ℕ) (reason : Reason) {place : ℕ} {r : BlockAnswer} → o ≡ refuse reason place → r ≡ Refused (refusalAt reason place)
-    → Met o out r out
+    → Reads o out r out
 met-refused o out reason {place} e q =
     let s = refusalAt reason place in
     (ap blockAnswer q ∙ told-refused s e extentOf refl, puts-refused s out (mapped-refused s e payloadOf))
@@ -66,29 +61,29 @@ module _ (t : Thresholds) (strip : List ℕ) (n p : ℕ) (out : List ℕ) where
   abbrev q : ℕ
   q = copyTwo p n
 
-  pub cut-short : {r : BlockAnswer} → length strip < endOf p n → r ≡ Refused (refusalAt CutShort p) → Met (readAt cs p n) out r out
+  pub cut-short : {r : BlockAnswer} → length strip < endOf p n → r ≡ Refused (refusalAt CutShort p) → Reads (readAt cs p n) out r out
   unfolding readAt
   cut-short h = met-refused (readAt cs p n) out CutShort (rw (length-map strip (classOf t), lt-ltb (length strip) (endOf p n) h))
 
   module _ (long : endOf p n ≤ length strip) {f : Found} (e : foundAt f ≡ firstFrom (isMiscounted cs p q) 9 0) where
-    pub miscounted : {i : ℕ} {r : BlockAnswer} → f ≡ At i → r ≡ Refused (refusalAt WrongCountdown i) → Met (readAt cs p n) out r out
+    pub miscounted : {i : ℕ} {r : BlockAnswer} → f ≡ At i → r ≡ Refused (refusalAt WrongCountdown i) → Reads (readAt cs p n) out r out
     unfolding readAt readCopies
     miscounted g = met-refused (readAt cs p n) out WrongCountdown (rw (length-map strip (classOf t), le-ltb (length strip) (endOf p n) long, ← e, g))
 
     module _ (g : f ≡ Nothing) {c : Check} (h : c ≡ checkOf (firstFrom (isLost cs p q) (n + 1) 0) (sumHolds cs p q n)) where
-      pub lost-byte : {i : ℕ} {r : BlockAnswer} → c ≡ LostAt i → r ≡ Refused (refusalAt LostByte i) → Met (readAt cs p n) out r out
+      pub lost-byte : {i : ℕ} {r : BlockAnswer} → c ≡ LostAt i → r ≡ Refused (refusalAt LostByte i) → Reads (readAt cs p n) out r out
       unfolding readAt readCopies
       lost-byte k = met-refused (readAt cs p n) out LostByte
           (rw (length-map strip (classOf t), le-ltb (length strip) (endOf p n) long, ← e, g, check-lost (firstFrom (isLost cs p q) (n + 1) 0) (sumHolds cs p q n) (sym h ∙ k)))
 
-      pub wrong-sum : {r : BlockAnswer} → c ≡ WrongSum → r ≡ Refused (refusalAt WrongChecksum n) → Met (readAt cs p n) out r out
+      pub wrong-sum : {r : BlockAnswer} → c ≡ WrongSum → r ≡ Refused (refusalAt WrongChecksum n) → Reads (readAt cs p n) out r out
       unfolding readAt readCopies
       wrong-sum k =
           let w = check-wrong (firstFrom (isLost cs p q) (n + 1) 0) (sumHolds cs p q n) (sym h ∙ k) in
           met-refused (readAt cs p n) out WrongChecksum (rw (length-map strip (classOf t), le-ltb (length strip) (endOf p n) long, ← e, g, w .0, w .1))
 
       pub sound : {out′ : List ℕ} → n ≤ length out → c ≡ Sound → out′ ≡ sets out 0 (valuesAt cs p q n)
-          → Met (readAt cs p n) out (Accepted (record { n = n; start = p; end = endOf p n })) out′
+          → Reads (readAt cs p n) out (Accepted (record { n = n; start = p; end = endOf p n })) out′
       unfolding readAt readCopies
       sound room k s =
           let w = check-sound (firstFrom (isLost cs p q) (n + 1) 0) (sumHolds cs p q n) (sym h ∙ k) in
@@ -110,20 +105,20 @@ module _ (cs : List Class) (from n : ℕ) (out : List ℕ) where
   abbrev outcome : Outcome BlockRead
   outcome = readBlock cs (length out) from n
 
-  pub wrong-size : {r : BlockAnswer} → wrongSize n ≡ true → r ≡ Refused (refusalAt WrongSize 0) → Met outcome out r out
+  pub wrong-size : {r : BlockAnswer} → wrongSize n ≡ true → r ≡ Refused (refusalAt WrongSize 0) → Reads outcome out r out
   unfolding readBlock
   wrong-size t = met-refused outcome out WrongSize (rw t)
 
   module _ (size : wrongSize n ≡ false) where
-    pub no-room : {r : BlockAnswer} → length out < n → r ≡ Refused (refusalAt NoRoom 0) → Met outcome out r out
+    pub no-room : {r : BlockAnswer} → length out < n → r ≡ Refused (refusalAt NoRoom 0) → Reads outcome out r out
     unfolding readBlock
     no-room h = met-refused outcome out NoRoom (rw (size, lt-ltb (length out) n h))
 
     module _ (room : n ≤ length out) {f : Found} (e : foundAt f ≡ startOf cs from) where
-      pub no-start : {r : BlockAnswer} → f ≡ Nothing → r ≡ Refused (refusalAt NoStart 0) → Met outcome out r out
+      pub no-start : {r : BlockAnswer} → f ≡ Nothing → r ≡ Refused (refusalAt NoStart 0) → Reads outcome out r out
       unfolding readBlock readFrom readFound
       no-start g = met-refused outcome out NoStart (rw (size, le-ltb (length out) n room, ← e, g))
 
-      pub started : {p : ℕ} (r : BlockAnswer) {out′ : List ℕ} → f ≡ At p → Met (readAt cs p n) out r out′ → Met outcome out r out′
+      pub started : {p : ℕ} (r : BlockAnswer) {out′ : List ℕ} → f ≡ At p → Reads (readAt cs p n) out r out′ → Reads outcome out r out′
       unfolding readBlock readFrom readFound
       started r g m = rw (size, le-ltb (length out) n room, ← e, g) m

@@ -7,8 +7,9 @@ use mathlib.Core.Option.{Option, none, some}
 use lib.Dec.{eqb, leb, ltb}
 use lib.ListN.{length, replicate}
 use Rattle.lists.specs.Places.{firstFrom, tabulate, part}
+use Rattle.lists.specs.Buffer.{putAt}
 use Rattle.refusal.specs.declared.Reason.the-variants.{WrongSize, NoRoom, NoStart, CutShort, WrongCountdown, LostByte, WrongChecksum}
-use Rattle.refusal.specs.Refusal.{Outcome, accepted, refuse, refuseFirst, told}
+use Rattle.refusal.specs.Refusal.{Outcome, accepted, refuse, refuseFirst, told, mapped, puts}
 use Rattle.pulse.specs.declared.Class.{Class}
 use Rattle.pulse.specs.declared.Class.the-variants.{Short}
 use Rattle.pulse.specs.Pulse.{same}
@@ -139,3 +140,7 @@ readBlock cs room from n =
 abbrev pub blockAnswer : BlockAnswer → Outcome Extent
 blockAnswer (Accepted extent) = accepted extent
 blockAnswer (Refused r) = told r
+
+-- what a reader promises: it answers r and leaves out′ in the buffer that held out, as the outcome says
+abbrev pub Reads : (o : Outcome BlockRead) (out : List ℕ) (r : BlockAnswer) (out′ : List ℕ) → Type 0
+Reads o out r out′ = (blockAnswer r ≡ mapped extentOf o) × (out′ ≡ putAt out 0 (puts (mapped payloadOf o)))

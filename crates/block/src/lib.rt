@@ -16,13 +16,12 @@ ghost use mathlib.Core.Path.{_≡_};
 ghost use lib.ListN.{length, replicate};
 ghost use lib.Seq.{sets};
 ghost use Rattle.lists.specs.Places.{firstFrom};
-ghost use Rattle.lists.specs.Buffer.{putAt};
-ghost use Rattle.refusal.specs.Refusal.{mapped, puts, putAnswer, refusalAt};
+ghost use Rattle.refusal.specs.Refusal.{putAnswer, refusalAt, Written};
 ghost use Rattle.pulse.specs.Pulse.{fixed, classes, pulses};
 ghost use Rattle.pulse.specs.declared.Class.the-variants.{Short};
 ghost use Rattle.byte.specs.Byte.{byteAt, isGood};
 ghost use Rattle.block.specs.Block.{checksum, bytesClasses, copyClasses, copyPulses, trailer, blockPulses, wrongSize, wrongLeader, measureBlock, writeBlock};
-ghost use Rattle.block.specs.Reading.{startOf, counted, isMiscounted, placeAt, valueOrZero, valuesAt, isLost, sumHolds, readAt, readBlock, blockAnswer, extentOf, payloadOf};
+ghost use Rattle.block.specs.Reading.{startOf, counted, isMiscounted, placeAt, valueOrZero, valuesAt, isLost, sumHolds, readAt, readBlock, Reads};
 ghost use Rattle.block.specs.Checks.{foundAt, checkOf};
 
 // The largest payload.
@@ -83,8 +82,7 @@ pub fn measure_block(n: usize, leader: usize) -> Put
 // Writes a block with a leader of that many short pulses, and answers the number of pulses put. It refuses a payload or a leader of
 // a wrong size and an output that is too short.
 pub fn write_block(payload: &[u8], leader: usize, out: &mut [u32]) -> Put
-    ensures answer { λ r. ⌜ putAnswer r ≡ mapped length (writeBlock (length (now (out .entry))) leader (now (payload .entry))) ⌝ }
-    ensures put { λ _. ⌜ now (out .exit) ≡ putAt (now (out .entry)) 0 (puts (writeBlock (length (now (out .entry))) leader (now (payload .entry)))) ⌝ }
+    ensures { λ r. ⌜ Written (writeBlock (length (now (out .entry))) leader (now (payload .entry))) (now (out .entry)) r (now (out .exit)) ⌝ }
 {
     match measure_block(payload.len(), leader) {
         Put::Refused(r) => Put::Refused(r),
@@ -101,8 +99,7 @@ pub fn write_block(payload: &[u8], leader: usize, out: &mut [u32]) -> Put
 // Reads the block of n payload bytes whose start is the first at or after `from`, and puts its payload. It refuses a wrong n, an output
 // that is too short, a strip with no start, and a block that is cut short or damaged beyond repair.
 pub fn read_block(strip: &[u32], from: usize, n: usize, out: &mut [u8]) -> BlockAnswer
-    ensures answer { λ r. ⌜ blockAnswer r ≡ mapped extentOf (readBlock (classes fixed (now (strip .entry))) (length (now (out .entry))) from n) ⌝ }
-    ensures put { λ _. ⌜ now (out .exit) ≡ putAt (now (out .entry)) 0 (puts (mapped payloadOf (readBlock (classes fixed (now (strip .entry))) (length (now (out .entry))) from n))) ⌝ }
+    ensures { λ r. ⌜ Reads (readBlock (classes fixed (now (strip .entry))) (length (now (out .entry))) from n) (now (out .entry)) r (now (out .exit)) ⌝ }
 {
     if wrong_size(n) {
         return refused(Reason::WrongSize, 0);
@@ -266,8 +263,7 @@ fn find_start(t: Thresholds, strip: &[u32], from: usize) -> Found
 // Rules 2 to 5, for a start that was found. Nothing is put before all of them hold.
 fn read_at(t: Thresholds, strip: &[u32], start: usize, n: usize, out: &mut [u8]) -> BlockAnswer
     requires { ⌜ (start ≤ length (now strip)) × (n ≤ 8192) × (n ≤ length (now out)) ⌝ }
-    ensures answer { λ r. ⌜ blockAnswer r ≡ mapped extentOf (readAt (classes t (now (strip .entry))) start n) ⌝ }
-    ensures put { λ _. ⌜ now (out .exit) ≡ putAt (now (out .entry)) 0 (puts (mapped payloadOf (readAt (classes t (now (strip .entry))) start n))) ⌝ }
+    ensures { λ r. ⌜ Reads (readAt (classes t (now (strip .entry))) start n) (now (out .entry)) r (now (out .exit)) ⌝ }
 {
     let copy = byte::BYTE_PULSES * (n + EXTRA_BYTES);
     let two = start + copy + TRAILER_PULSES;

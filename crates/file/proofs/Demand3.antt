@@ -1,32 +1,30 @@
 -- Demand 3: whatever the tape does within the damage of a file, the reader returns what was written; and no strip lies within the damage
 -- of two files that differ. It is stated over the promises of the writer and the reader themselves.
 use Prim.Native.Nat.{ℕ, _+_, _-_, _*_, _≤_}
-use native.Mathlib.Nat.{zero-add}
 use native.Mathlib.Omega.{arith}
 use mathlib.Core.Path.{_≡_, refl, sym, ap, _∙_}
 use mathlib.Core.List.{List}
 use lib.Dec.{lit≤}
-use lib.ListN.{length, drop}
+use lib.ListN.{length}
 use lib.Seq.{take-all, take-at, drop-at}
 use Rattle.lists.specs.Places.{part}
 use Rattle.lists.specs.Buffer.{putAt}
 use Rattle.lists.proofs.PartLaws.{part-part}
-use Rattle.lists.proofs.BufferLaws.{part-put, rest-put}
+use Rattle.lists.proofs.BufferLaws.{part-put, rest-front}
 use Rattle.refusal.specs.Refusal.{accepted, mapped, puts}
-use Rattle.refusal.proofs.OutcomeLaws.{accepted-once, mapped-accepted}
+use Rattle.refusal.proofs.OutcomeLaws.{accepted-once, mapped-accepted, written-accepted}
 use Rattle.pulse.specs.Pulse.{fixed, classes}
 use Rattle.block.specs.Reading.{endOf}
 use Rattle.block.proofs.BlockLaws.{length-blockPulses}
 use Rattle.block.proofs.DamageLaws.{undamaged}
-use Rattle.header.specs.Header.{filled}
 use Rattle.header.proofs.HeaderLaws.{length-header, fields-header, header-name}
 use Rattle.file.specs.declared.Loaded.{Loaded}
 use Rattle.file.specs.declared.FileAnswer.{FileAnswer}
 use Rattle.file.specs.declared.FileAnswer.the-variants.{Accepted, Refused}
 use Rattle.file.specs.File.{File, fileHeader, headerPulses, dataPulses, filePulses, dataBytes, writeFile}
-use Rattle.file.specs.Reading.{FileRead, loadedOf, bytesOf, readFile, fileAnswer}
-use Rattle.file.specs.Damage.{FileDamaged, Sent, Enough, Reads, Returned, SameFile}
-use Rattle.file.proofs.FileLaws.{Right, accepted-right, length-filePulses, file-read}
+use Rattle.file.specs.Reading.{FileRead, loadedOf, headerOf, bytesOf, readFile, fileAnswer, Reads}
+use Rattle.file.specs.Damage.{FileDamaged, Typed, Sent, Enough, Returned, SameFile}
+use Rattle.file.proofs.FileLaws.{Taken, accepted-taken, taken-accepted, length-filePulses, file-read}
 
 -- what the file is read as
 abbrev pub asWritten : File → (strip : List ℕ) → FileRead
@@ -36,57 +34,48 @@ answered-is : (a : FileAnswer) (l : Loaded) → fileAnswer a ≡ accepted l → 
 answered-is (Accepted m) l e = cc
 answered-is (Refused r) l e = absurd (let z : _≡_ {A = ℕ} 0 1 = cc in omega arith)
 
--- ---- Buffers
-
-rest-front : (buffer values : List ℕ) (n : ℕ) → length values ≡ n → n ≤ length buffer → drop n (putAt buffer 0 values) ≡ drop n buffer
-rest-front buffer values n e h = rw (← e) (rw zero-add at (rest-put buffer 0 values (omega arith)))
-
-name-put : (f : File) (h : List ℕ) → length (fileHeader f) ≡ 192 → 192 ≤ length h → part (putAt h 0 (fileHeader f)) 5 187 ≡ filled (f .name)
-name-put f h l enough =
-    let there : part (putAt h 0 (fileHeader f)) 0 192 ≡ fileHeader f = rw l at (part-put h 0 (fileHeader f) (omega arith)) in
-    sym (part-part (putAt h 0 (fileHeader f)) 0 192 5 187 (lit≤ tt)) ∙ ap (λ xs. part xs 5 187) there ∙ header-name (f .fields) (f .name)
-
 -- ---- The writer accepted the file
 
 module _ {f : File} {out out′ : List ℕ} {count : ℕ} (sent : Sent f out count out′) where
-  accepts : Right f × (length (filePulses f) ≡ count) × (writeFile (length out) f ≡ accepted (filePulses f)) × (length (filePulses f) ≤ length out)
-  accepts =
-      let w = mapped-accepted length (writeFile (length out) f) (sent .wrote .0) in
-      let a = accepted-right (length out) f (w .0) (w .1) in
-      (a .0, ap length (a .2) ∙ w .2, w .1 ∙ ap accepted (sym (a .2)), a .1)
+  taken : Taken (length out) f
+  taken = let w = mapped-accepted length (writeFile (length out) f) (sent .promised .0) in accepted-taken (length out) f (w .0) (w .1)
+
+  length-count : length (filePulses f) ≡ count
+  length-count = let e = rw (taken-accepted (length out) f taken) at (sent .promised .0) in cc
 
   -- ---- The strip lies within its damage
 
   module _ {strip : List ℕ} (d : FileDamaged f count strip) where
-    whole : part strip 0 (length (filePulses f)) ≡ strip
-    whole = take-all (length (filePulses f)) strip (omega (arith, d .long, accepts .1))
-
     -- the rules for reading give it, whatever room is enough
     pub readFile-damaged : (headerRoom dataRoom : ℕ) → 192 ≤ headerRoom → dataBytes (f .fields) ≤ dataRoom
         → readFile (classes fixed strip) headerRoom dataRoom 0 ≡ accepted (asWritten f strip)
     readFile-damaged headerRoom dataRoom h b =
-        let long = accepts .1 in
+        let right = taken .right in
         let n = dataBytes (f .fields) in
         let p = 0 + length (headerPulses f) + f .leader₁ in
-        let r = file-read f (sent .typed) (accepts .0) strip 0 (rw (whole, long) d) 0 (omega (arith, accepts .0 .leader₀ .low)) (λ i x y. absurd (omega arith)) headerRoom dataRoom h b in
-        let size : length (dataPulses f) ≡ f .leader₁ + 40 * (n + 10) + 122 =
-        length-blockPulses (f .leader₁) (f .bytes) ∙ ap (λ k. f .leader₁ + 40 * (k + 10) + 122) (sym (accepts .0 .size))
-        in
-        let stop : endOf p n ≡ length strip - 61 = omega (arith, d .long, length-filePulses f) in
+        let whole : part strip 0 (length (filePulses f)) ≡ strip = take-all (length (filePulses f)) strip (omega (arith, d .long, length-count)) in
+        let r = file-read f (sent .typed) right strip 0 (rw (whole, length-count) d) 0 (omega (arith, right .leader₀ .low)) (λ i x y. absurd (omega arith)) headerRoom dataRoom h b in
+        let size : length (dataPulses f) ≡ f .leader₁ + 40 * (n + 10) + 122 = rw (right .size) (length-blockPulses (f .leader₁) (f .bytes)) in
+        let stop : endOf p n ≡ length strip - 61 = omega (arith, d .long, length-count, length-filePulses f) in
         r ∙ rw (fields-header (f .fields) (f .name), stop)
 
-    -- Demand 3.
-    pub demand-3 : {h b h′ b′ : List ℕ} {r : FileAnswer} → Enough f h b → Reads strip 0 h b r h′ b′ → Returned f strip h b r h′ b′
-    demand-3 {h} {b} {h′} {b′} {r} enough reads =
+    -- Demand 3. What the reader promises is its contract, from place 0 on.
+    pub demand-3 : (h b : List ℕ) (r : FileAnswer) (h′ b′ : List ℕ) → Enough f h b → Reads (readFile (classes fixed strip) (length h) (length b) 0) h b r h′ b′
+        → Returned f strip h b r h′ b′
+    demand-3 h b r h′ b′ enough promised =
         let e = readFile-damaged (length h) (length b) (enough .header) (enough .bytes) in
-        let l = length-header (f .fields) (f .name) in
-        let size = accepts .0 .size in
+        let put₀ : h′ ≡ putAt h 0 (fileHeader f) = promised .1 .0 ∙ ap (λ o. putAt h 0 (puts (mapped headerOf o))) e in
+        let put₁ : b′ ≡ putAt b 0 (f .bytes) = promised .1 .1 ∙ ap (λ o. putAt b 0 (puts (mapped bytesOf o))) e in
+        let long = length-header (f .fields) (f .name) in
+        let fits : length (f .bytes) ≤ length b = omega (arith, enough .bytes, taken .right .size) in
+        let there : part h′ 0 192 ≡ fileHeader f = rw put₀ (rw long at (part-put h 0 (fileHeader f) (omega (arith, enough .header)))) in
         record {
-          answer = answered-is r _ (reads .answer ∙ ap (mapped loadedOf) e);
-          name = rw (reads .header, e) (name-put f h l (enough .header));
-          bytes = rw (reads .bytes, e) (part-put b 0 (f .bytes) (omega (arith, enough .bytes)));
-          headerRest = rw (reads .header, e) (rest-front h (fileHeader f) 192 l (enough .header));
-          bytesRest = rw (reads .bytes, e) (rest-front b (f .bytes) (length (f .bytes)) refl (omega (arith, enough .bytes)));
+          answer = answered-is r _ (promised .0 ∙ ap (mapped loadedOf) e);
+          header = there;
+          name = sym (part-part h′ 0 192 5 187 (lit≤ tt)) ∙ ap (λ xs. part xs 5 187) there ∙ header-name (f .fields) (f .name);
+          bytes = rw put₁ (part-put b 0 (f .bytes) (omega arith));
+          headerRest = rw put₀ (rest-front h (fileHeader f) 192 long (enough .header));
+          bytesRest = rw put₁ (rest-front b (f .bytes) (length (f .bytes)) refl fits);
         }
 
 -- ---- No strip lies within the damage of two files that differ
@@ -94,8 +83,8 @@ module _ {f : File} {out out′ : List ℕ} {count : ℕ} (sent : Sent f out cou
 module _ {f g : File} {out out′ other other′ : List ℕ} {count count′ : ℕ} (sent : Sent f out count out′) (sent′ : Sent g other count′ other′) {strip : List ℕ} where
   pub same-file : FileDamaged f count strip → FileDamaged g count′ strip → SameFile f g
   same-file d d′ =
-      let e = readFile-damaged sent d 192 8192 (lit≤ tt) (accepts sent .0 .addresses .high) in
-      let e′ = readFile-damaged sent′ d′ 192 8192 (lit≤ tt) (accepts sent′ .0 .addresses .high) in
+      let e = readFile-damaged sent d 192 8192 (lit≤ tt) (taken sent .right .addresses .high) in
+      let e′ = readFile-damaged sent′ d′ 192 8192 (lit≤ tt) (taken sent′ .right .addresses .high) in
       let same : asWritten f strip ≡ asWritten g strip = accepted-once e e′ in
       record {
         fields = ap (λ r. r .loaded .fields) same;
@@ -121,7 +110,13 @@ file-undamaged f = record {
 
 -- and so does what the writer left in the buffer, as many pulses as it answered
 pub sent-undamaged : {f : File} {out out′ : List ℕ} {count : ℕ} → Sent f out count out′ → FileDamaged f count (part out′ 0 count)
-sent-undamaged {f} {out} {out′} {count} sent =
-    let a = accepts sent in
-    let put : out′ ≡ putAt out 0 (filePulses f) = sent .wrote .1 ∙ ap (λ o. putAt out 0 (puts o)) (a .2) in
-    rw (put, ← (a .1), part-put out 0 (filePulses f) (omega (arith, a .3))) (file-undamaged f)
+sent-undamaged {f} {out} sent =
+    let t = taken sent in
+    let fits = t .fits in
+    rw (sent .promised .1, taken-accepted (length out) f t, ← (length-count sent), part-put out 0 (filePulses f) (omega arith)) (file-undamaged f)
+
+-- ---- The claim is not empty
+
+-- the writer accepts every right file, where there is room
+pub right-sent : {f : File} (out : List ℕ) → Typed f → Taken (length out) f → Sent f out (length (filePulses f)) (putAt out 0 (filePulses f))
+right-sent {f} out typed t = record { typed = typed; promised = written-accepted (writeFile (length out) f) out (taken-accepted (length out) f t) refl refl }

@@ -6,7 +6,7 @@ use mathlib.Core.Logic.{_⊎_, inl, inr}
 use mathlib.Core.Bool.{false, not, _||_}
 use mathlib.Core.List.{List}
 use borrow.Author.Tests.{le-ltb, lt-leb, ltb-false, leb-false, not-false, eq-eqb, eqb-true}
-use lib.Dec.{eqb, leb, ltb, lit<}
+use lib.Dec.{eqb, leb, ltb}
 use lib.ListN.{length, getD, length-append}
 use Rattle.lists.specs.Places.{part}
 use Rattle.lists.proofs.BoolLaws.{or-false, or-true}
@@ -40,10 +40,6 @@ right-kind : (kind : ℕ) → (kind ≡ 1) ⊎ (kind ≡ 3) → notProgram kind 
 right-kind kind (inl e) = rw e
 right-kind kind (inr e) = rw e
 
-kind-lt : (kind : ℕ) → (kind ≡ 1) ⊎ (kind ≡ 3) → kind < 256
-kind-lt kind (inl e) = rw e (lit< tt)
-kind-lt kind (inr e) = rw e (lit< tt)
-
 -- the data block of right addresses has 1 to 8,192 bytes
 pub addresses-right : (f : Fields) → wrongAddresses f ≡ false → Within 1 8192 (dataBytes f)
 addresses-right f e =
@@ -65,32 +61,38 @@ pub record Right (f : File) : Type 0 where
   pub leader₀ : Within 64 65535 (f .leader₀)
   pub leader₁ : Within 64 65535 (f .leader₁)
 
-pub accepted-right : (room : ℕ) (f : File) (strip : List ℕ) → writeFile room f ≡ accepted strip → Right f × (length (filePulses f) ≤ room) × (filePulses f ≡ strip)
+-- and there is room for it
+pub record Taken (room : ℕ) (f : File) : Type 0 where
+  pub right : Right f
+  pub fits : length (filePulses f) ≤ room
+
+-- it accepts exactly such files
+pub accepted-taken : (room : ℕ) (f : File) (strip : List ℕ) → writeFile room f ≡ accepted strip → Taken room f
 unfolding writeFile writeBlocks
-accepted-right room f strip e =
+accepted-taken room f strip e =
     let n = accepted-next (wrongName (length (f .name))) (refusalAt WrongSize 0) _ strip e in
     let k = accepted-next (notProgram (f .fields .kind)) (refusalAt WrongType 0) _ strip (n .1) in
     let a = accepted-next (wrongAddresses (f .fields) || not (eqb (dataBytes (f .fields)) (length (f .bytes)))) (refusalAt WrongAddresses 0) _ strip (k .1) in
     let l₀ = accepted-next (wrongLeader (f .leader₀)) (refusalAt WrongLeader 0) _ strip (a .1) in
     let l₁ = accepted-next (wrongLeader (f .leader₁)) (refusalIn 1 (refusalAt WrongLeader 0)) _ strip (l₀ .1) in
     let r = accepted-next (ltb room (length (filePulses f))) (refusalAt NoRoom 0) _ strip (l₁ .1) in
-    let w = or-false (wrongAddresses (f .fields)) (not (eqb (dataBytes (f .fields)) (length (f .bytes)))) (a .0) in (
-      record {
+    let w = or-false (wrongAddresses (f .fields)) (not (eqb (dataBytes (f .fields)) (length (f .bytes)))) (a .0) in
+    record {
+      right = record {
         name = ltb-false 187 (length (f .name)) (n .0);
         kind = kind-right (f .fields .kind) (k .0);
         addresses = addresses-right (f .fields) (w .0);
         size = eqb-true (dataBytes (f .fields)) (length (f .bytes)) (not-false (eqb (dataBytes (f .fields)) (length (f .bytes))) (w .1));
         leader₀ = leader-right (f .leader₀) (l₀ .0);
         leader₁ = leader-right (f .leader₁) (l₁ .0);
-      },
-      ltb-false room (length (filePulses f)) (r .0),
-      cc,
-    )
+      };
+      fits = ltb-false room (length (filePulses f)) (r .0);
+    }
 
--- it accepts every such file, where there is room
-pub right-accepted : (room : ℕ) (f : File) → Right f → length (filePulses f) ≤ room → writeFile room f ≡ accepted (filePulses f)
+pub taken-accepted : (room : ℕ) (f : File) → Taken room f → writeFile room f ≡ accepted (filePulses f)
 unfolding writeFile writeBlocks
-right-accepted room f right fits =
+taken-accepted room f t =
+    let right = t .right in
     rw (
       le-ltb 187 (length (f .name)) (right .name),
       right-kind (f .fields .kind) (right .kind),
@@ -98,7 +100,7 @@ right-accepted room f right fits =
       eq-eqb (dataBytes (f .fields)) (length (f .bytes)) (right .size),
       right-leader (f .leader₀) (right .leader₀),
       right-leader (f .leader₁) (right .leader₁),
-      le-ltb room (length (filePulses f)) fits,
+      le-ltb room (length (filePulses f)) (t .fits),
     )
 
 -- ---- Lengths
@@ -154,7 +156,7 @@ module _ (f : File) (typed : Typed f) (right : Right f) (strip : List ℕ) (o : 
   header-read : readFrom (classes fixed strip) from 192 ≡ accepted (blockAt (o + k₀) 192 (fileHeader f))
   header-read =
       read-damaged strip o k₀ (fileHeader f) (length-header (f .fields) (f .name)) one
-      (below-header (f .fields) (f .name) (kind-lt (f .fields .kind) (right .kind)) (typed .start) (typed .end) (typed .name)) from (omega (arith, right .leader₀ .low)) far before
+      (below-header (f .fields) (f .name) (typed .kind) (typed .start) (typed .end) (typed .name)) from (omega (arith, right .leader₀ .low)) far before
 
   data-read : readFrom (classes fixed strip) (endOf (o + k₀) 192) n ≡ accepted (blockAt (o₁ + k₁) n (f .bytes))
   data-read =

@@ -25,15 +25,10 @@ use Rattle.header.specs.Header.{fieldsOf}
 use Rattle.file.specs.declared.FileAnswer.{FileAnswer}
 use Rattle.file.specs.declared.FileAnswer.the-variants.{Accepted, Refused}
 use Rattle.file.specs.File.{notProgram, wrongAddresses, dataBytes}
-use Rattle.file.specs.Reading.{FileRead, loadedOf, headerOf, bytesOf, fileRead, readData, readFileBy, readFile, fileAnswer}
+use Rattle.file.specs.Reading.{FileRead, loadedOf, headerOf, bytesOf, fileRead, readData, readFileBy, readFile, fileAnswer, Reads}
 use Rattle.file.proofs.FileLaws.{addresses-right}
 
--- the answer r and the buffers afterwards are those of an outcome
-abbrev pub Met : (o : Outcome FileRead) (h b : List ℕ) (r : FileAnswer) (h′ b′ : List ℕ) → Type 0
-Met o h b r h′ b′ =
-    (fileAnswer r ≡ mapped loadedOf o) × ((h′ ≡ putAt h 0 (puts (mapped headerOf o))) × (b′ ≡ putAt b 0 (puts (mapped bytesOf o))))
-
-met-refused : (o : Outcome FileRead) (h b : List ℕ) {r : FileAnswer} (s : Refusal) → o ≡ told s → r ≡ Refused s → Met o h b r h b
+met-refused : (o : Outcome FileRead) (h b : List ℕ) {r : FileAnswer} (s : Refusal) → o ≡ told s → r ≡ Refused s → Reads o h b r h b
 met-refused o h b s e q =
     (ap fileAnswer q ∙ told-refused s e loadedOf refl, (puts-refused s h (mapped-refused s e headerOf), puts-refused s b (mapped-refused s e bytesOf)))
 
@@ -44,17 +39,17 @@ module _ (cs : List Class) (h b : List ℕ) (from : ℕ) (header : List ℕ) whe
   outcome = readData (readFrom cs) (length h) (length b) from header
 
   module _ {f : Fields} (fields : f ≡ fieldsOf header) where
-    pub wrong-type : {r : FileAnswer} → notProgram (f .kind) ≡ true → r ≡ Refused (refusalAt WrongType 0) → Met outcome h b r h b
+    pub wrong-type : {r : FileAnswer} → notProgram (f .kind) ≡ true → r ≡ Refused (refusalAt WrongType 0) → Reads outcome h b r h b
     unfolding readData
     wrong-type t = met-refused outcome h b (refusalAt WrongType 0) (rw (← fields, t))
 
     module _ (kind : notProgram (f .kind) ≡ false) where
-      pub wrong-order : {r : FileAnswer} → wrongAddresses f ≡ true → r ≡ Refused (refusalAt WrongAddresses 0) → Met outcome h b r h b
+      pub wrong-order : {r : FileAnswer} → wrongAddresses f ≡ true → r ≡ Refused (refusalAt WrongAddresses 0) → Reads outcome h b r h b
       unfolding readData
       wrong-order t = met-refused outcome h b (refusalAt WrongAddresses 0) (rw (← fields, kind, t))
 
       module _ (order : wrongAddresses f ≡ false) {n : ℕ} (count : n ≡ dataBytes f) where
-        pub no-room : {r : FileAnswer} → (ltb (length h) 192 || ltb (length b) n) ≡ true → r ≡ Refused (refusalAt NoRoom 0) → Met outcome h b r h b
+        pub no-room : {r : FileAnswer} → (ltb (length h) 192 || ltb (length b) n) ≡ true → r ≡ Refused (refusalAt NoRoom 0) → Reads outcome h b r h b
         unfolding readData
         no-room t = met-refused outcome h b (refusalAt NoRoom 0) (rw (← fields, kind, order, ← count, t))
 
@@ -64,12 +59,12 @@ module _ (cs : List Class) (h b : List ℕ) (from : ℕ) (header : List ℕ) whe
               read-room cs (length b) from n (rw count (right-size (dataBytes f) (addresses-right f order)))
               (ltb-false (length b) n (or-false (ltb (length h) 192) (ltb (length b) n) room .1))
 
-          met-spoilt : {r s : Refusal} → readFrom cs from n ≡ told s → r ≡ refusalIn 1 s → Met outcome h b (Refused r) h b
+          met-spoilt : {r s : Refusal} → readFrom cs from n ≡ told s → r ≡ refusalIn 1 s → Reads outcome h b (Refused r) h b
           unfolding readData
           met-spoilt {r} {s} o t = met-refused outcome h b (refusalIn 1 s) (rw (← fields, kind, order, ← count, room, o)) (ap Refused t)
 
           met-loaded : (z : BlockRead) {x : Extent} {h′ b′ : List ℕ} → readFrom cs from n ≡ accepted z → z .extent ≡ x → h′ ≡ putAt h 0 header → b′ ≡ putAt b 0 (z .payload)
-              → Met outcome h b (Accepted (record { fields = f; stop = x .end })) h′ b′
+              → Reads outcome h b (Accepted (record { fields = f; stop = x .end })) h′ b′
           unfolding readData
           met-loaded z o q w p =
               let e : outcome ≡ mapped (fileRead header) (inBlock 1 (readFrom cs from n)) = rw (← fields, kind, order, ← count, room) in
@@ -78,14 +73,14 @@ module _ (cs : List Class) (h b : List ℕ) (from : ℕ) (header : List ℕ) whe
           module _ {a : BlockAnswer} (e : blockAnswer a ≡ mapped extentOf (readBlock cs (length b) from n)) {b′ : List ℕ}
               (put : b′ ≡ putAt b 0 (puts (mapped payloadOf (readBlock cs (length b) from n)))) where
             -- the data block is refused
-            pub spoilt : {r s : Refusal} → a ≡ block.Refused s → r ≡ refusalIn 1 s → Met outcome h b (Refused r) h b′
+            pub spoilt : {r s : Refusal} → a ≡ block.Refused s → r ≡ refusalIn 1 s → Reads outcome h b (Refused r) h b′
             spoilt {r} {s} q t =
                 let o = mapped-told extentOf (readFrom cs from n) s (sym (ap blockAnswer q) ∙ e ∙ ap (mapped extentOf) by-rules) in
                 let unchanged : b′ ≡ b = put ∙ sym (puts-refused s b (ap (mapped payloadOf) (by-rules ∙ o))) in
                 rw unchanged (met-spoilt o t)
 
             -- it is accepted
-            pub loaded : {x : Extent} {h′ : List ℕ} → a ≡ block.Accepted x → h′ ≡ putAt h 0 header → Met outcome h b (Accepted (record { fields = f; stop = x .end })) h′ b′
+            pub loaded : {x : Extent} {h′ : List ℕ} → a ≡ block.Accepted x → h′ ≡ putAt h 0 header → Reads outcome h b (Accepted (record { fields = f; stop = x .end })) h′ b′
             loaded q w =
                 let y = mapped-accepted extentOf (readFrom cs from n) (sym (ap blockAnswer q) ∙ e ∙ ap (mapped extentOf) by-rules) in
                 met-loaded (y .0) (y .1) (y .2) w (put ∙ ap (λ o. putAt b 0 (puts (mapped payloadOf o))) (by-rules ∙ y .1))
@@ -97,12 +92,12 @@ header-rules cs from = read-room cs 192 from 192 refl (lit≤ tt)
 
 module _ (cs : List Class) (h b : List ℕ) (from : ℕ) where
   met-header : (z : BlockRead) {x : Extent} {header : List ℕ} → readFrom cs from 192 ≡ accepted z → z .extent ≡ x → header ≡ z .payload → (r : FileAnswer) {h′ b′ : List ℕ}
-      → Met (readData (readFrom cs) (length h) (length b) (x .end) header) h b r h′ b′ → Met (readFile cs (length h) (length b) from) h b r h′ b′
+      → Reads (readData (readFrom cs) (length h) (length b) (x .end) header) h b r h′ b′ → Reads (readFile cs (length h) (length b) from) h b r h′ b′
   unfolding readFileBy
   met-header z o q s r m = rw (o, q, ← s) m
 
   module _ {a : BlockAnswer} (e : blockAnswer a ≡ mapped extentOf (readBlock cs 192 from 192)) where
-    pub no-header : {r : Refusal} → a ≡ block.Refused r → Met (readFile cs (length h) (length b) from) h b (Refused r) h b
+    pub no-header : {r : Refusal} → a ≡ block.Refused r → Reads (readFile cs (length h) (length b) from) h b (Refused r) h b
     unfolding readFileBy
     no-header {r} q =
         let o : readFrom cs from 192 ≡ told r = mapped-told extentOf (readFrom cs from 192) r (sym (ap blockAnswer q) ∙ e ∙ ap (mapped extentOf) (header-rules cs from)) in
@@ -110,7 +105,7 @@ module _ (cs : List Class) (h b : List ℕ) (from : ℕ) where
 
     pub with-header : {x : Extent} {header : List ℕ} (r : FileAnswer) {h′ b′ : List ℕ} → a ≡ block.Accepted x
         → header ≡ putAt (replicate 192 0) 0 (puts (mapped payloadOf (readBlock cs 192 from 192)))
-        → Met (readData (readFrom cs) (length h) (length b) (x .end) header) h b r h′ b′ → Met (readFile cs (length h) (length b) from) h b r h′ b′
+        → Reads (readData (readFrom cs) (length h) (length b) (x .end) header) h b r h′ b′ → Reads (readFile cs (length h) (length b) from) h b r h′ b′
     with-header {x} {header} r q p m =
         let y = mapped-accepted extentOf (readFrom cs from 192) (sym (ap blockAnswer q) ∙ e ∙ ap (mapped extentOf) (header-rules cs from)) in
         let long = length-payload cs 192 (y .0) from (y .1) in

@@ -2,9 +2,11 @@
 use Prim.Native.Nat.{ℕ, _+_, _-_, _≤_, _<_}
 use native.Mathlib.Omega.{arith}
 use mathlib.Core.Path.{_≡_, refl, sym, ap, ap₂, _∙_}
-use mathlib.Core.Bool.{true, false}
+use mathlib.Core.Bool.{Bool, true, false, not, _||_}
+use Rattle.lists.proofs.BoolLaws.{or-false}
+use lib.Dec.{eqb}
 use mathlib.Core.List.{List, _++_}
-use borrow.Author.Tests.{lt-ltb, le-ltb, eq-eqb, ne-eqb}
+use borrow.Author.Tests.{lt-ltb, le-ltb, eqb-true, not-false}
 use lib.ListN.{length, take, drop, length-append, length-take, length-drop}
 use Rattle.lists.specs.Places.{part}
 use Rattle.lists.specs.Buffer.{putAt}
@@ -78,6 +80,9 @@ module _ (out : List ℕ) (f : File) where
   abbrev whole : Outcome (List ℕ)
   whole = writeFile (length out) f
 
+  abbrev wrongOrder : Bool
+  wrongOrder = wrongAddresses (f .fields) || not (eqb (dataBytes (f .fields)) (length (f .bytes)))
+
   pub long-name : {r : Refusal} → wrongName (length (f .name)) ≡ true → r ≡ refusalAt WrongSize 0 → Written whole out (Refused r) out
   unfolding writeFile
   long-name t = written-refused whole out (rw t)
@@ -88,20 +93,17 @@ module _ (out : List ℕ) (f : File) where
     wrong-type t = written-refused whole out (rw (name, t))
 
     module _ (kind : notProgram (f .fields .kind) ≡ false) where
-      pub wrong-order : {r : Refusal} → wrongAddresses (f .fields) ≡ true → r ≡ refusalAt WrongAddresses 0 → Written whole out (Refused r) out
+      pub wrong-order : {r : Refusal} → wrongOrder ≡ true → r ≡ refusalAt WrongAddresses 0 → Written whole out (Refused r) out
       unfolding writeFile
       wrong-order t = written-refused whole out (rw (name, kind, t))
 
-      module _ (order : wrongAddresses (f .fields) ≡ false) where
-        pub wrong-count : {r : Refusal} → (dataBytes (f .fields) ≡ length (f .bytes) → ⊥) → r ≡ refusalAt WrongAddresses 0 → Written whole out (Refused r) out
+      module _ (order : wrongOrder ≡ false) where
+        pub size-bytes : wrongSize (length (f .bytes)) ≡ false
+        size-bytes = let o = or-false (wrongAddresses (f .fields)) _ order in
+            let size = eqb-true (dataBytes (f .fields)) (length (f .bytes)) (not-false (eqb (dataBytes (f .fields)) (length (f .bytes))) (o .1)) in
+            rw (← size) (right-size (dataBytes (f .fields)) (addresses-right (f .fields) (o .0)))
+
+        pub blocks : {header : List ℕ} (r : Put) {out′ : List ℕ} → header ≡ fileHeader f
+            → Written (writeBlocks (length out) (f .leader₀) header (f .leader₁) (f .bytes)) out r out′ → Written whole out r out′
         unfolding writeFile
-        wrong-count n = written-refused whole out (rw (name, kind, order, ne-eqb (dataBytes (f .fields)) (length (f .bytes)) n))
-
-        module _ (size : dataBytes (f .fields) ≡ length (f .bytes)) where
-          pub size-bytes : wrongSize (length (f .bytes)) ≡ false
-          size-bytes = rw (← size) (right-size (dataBytes (f .fields)) (addresses-right (f .fields) order))
-
-          pub blocks : {header : List ℕ} (r : Put) {out′ : List ℕ} → header ≡ fileHeader f
-              → Written (writeBlocks (length out) (f .leader₀) header (f .leader₁) (f .bytes)) out r out′ → Written whole out r out′
-          unfolding writeFile
-          blocks r e w = rw (name, kind, order, eq-eqb (dataBytes (f .fields)) (length (f .bytes)) size) (rw e at w)
+        blocks r e w = rw (name, kind, order) (rw e at w)

@@ -1,10 +1,12 @@
 -- Reading a program file (document 01, 'Headers and program files').
 use Prim.Native.Nat.{ℕ}
+use mathlib.Core.Path.{_≡_}
 use mathlib.Core.Bool.{cond, _||_}
 use mathlib.Core.List.{List}
 use lib.Dec.{ltb}
+use Rattle.lists.specs.Buffer.{putAt}
 use Rattle.refusal.specs.declared.Reason.the-variants.{NoRoom, WrongType, WrongAddresses}
-use Rattle.refusal.specs.Refusal.{Outcome, accepted, refuse, told, mapped, inBlock, andThen}
+use Rattle.refusal.specs.Refusal.{Outcome, accepted, refuse, told, mapped, inBlock, andThen, puts}
 use Rattle.pulse.specs.declared.Class.{Class}
 use Rattle.block.specs.Reading.{BlockRead, readFrom}
 use Rattle.header.specs.Header.{fieldsOf}
@@ -60,3 +62,8 @@ readFile cs = readFileBy (readFrom cs)
 abbrev pub fileAnswer : FileAnswer → Outcome Loaded
 fileAnswer (Accepted loaded) = accepted loaded
 fileAnswer (Refused r) = told r
+
+-- what a reader promises: it answers r and leaves h′ and b′ in the buffers that held h and b, as the outcome says
+abbrev pub Reads : (o : Outcome FileRead) (h b : List ℕ) (r : FileAnswer) (h′ b′ : List ℕ) → Type 0
+Reads o h b r h′ b′ =
+    (fileAnswer r ≡ mapped loadedOf o) × ((h′ ≡ putAt h 0 (puts (mapped headerOf o))) × (b′ ≡ putAt b 0 (puts (mapped bytesOf o))))

@@ -10,13 +10,12 @@ ghost use Prim.Native.Nat.{_+_, _-_};
 ghost use mathlib.Core.Path.{_≡_};
 ghost use mathlib.Core.Bool.{false};
 ghost use lib.ListN.{length};
-ghost use Rattle.lists.specs.Buffer.{putAt};
-ghost use Rattle.refusal.specs.Refusal.{mapped, puts, putAnswer, refusalAt};
+ghost use Rattle.refusal.specs.Refusal.{refusalAt, Written};
 ghost use Rattle.pulse.specs.Pulse.{fixed, classes};
 ghost use Rattle.block.specs.Block.{wrongSize};
 ghost use Rattle.block.specs.Reading.{readFrom};
 ghost use Rattle.file.specs.File.{file, notProgram, wrongAddresses, dataBytes, writeBlocks, writeFile};
-ghost use Rattle.file.specs.Reading.{readData, readFile, fileAnswer, loadedOf, headerOf, bytesOf};
+ghost use Rattle.file.specs.Reading.{readData, readFile, Reads};
 
 // The types that a program file has.
 const PROGRAM: u8 = 1;
@@ -49,8 +48,7 @@ pub fn write_file(
     leader1: usize,
     out: &mut [u32],
 ) -> Put
-    ensures answer { λ r. ⌜ putAnswer r ≡ mapped length (writeFile (length (now (out .entry))) (file fields (now (name .entry)) (now (bytes .entry)) leader0 leader1)) ⌝ }
-    ensures put { λ _. ⌜ now (out .exit) ≡ putAt (now (out .entry)) 0 (puts (writeFile (length (now (out .entry))) (file fields (now (name .entry)) (now (bytes .entry)) leader0 leader1))) ⌝ }
+    ensures { λ r. ⌜ Written (writeFile (length (now (out .entry))) (file fields (now (name .entry)) (now (bytes .entry)) leader0 leader1)) (now (out .entry)) r (now (out .exit)) ⌝ }
 {
     if header::wrong_name(name.len()) {
         return Put::Refused(refusal::at(Reason::WrongSize, 0));
@@ -58,22 +56,17 @@ pub fn write_file(
     if not_program(fields.kind) {
         return Put::Refused(refusal::at(Reason::WrongType, 0));
     }
-    if wrong_addresses(fields) {
-        return Put::Refused(refusal::at(Reason::WrongAddresses, 0));
-    }
-    if data_bytes(fields) != bytes.len() {
+    if wrong_addresses(fields) | (data_bytes(fields) != bytes.len()) {
         return Put::Refused(refusal::at(Reason::WrongAddresses, 0));
     }
     write_blocks(header::packed(fields, name), bytes, leader0, leader1, out)
 }
 
 // Reads the program file whose header is the first block at or after `from`: puts its header and its data, and answers type, addresses
-// and the end of the data block. It refuses a header or a data block that `read_block` refuses, a type that is not 1 or 3, addresses
-// that no file has, and an output that is too short.
+// and the end of the data block. It refuses a header or a data block as `read_block` does, a type that is not 1 or 3, an end that is not
+// above the start or too far above it, and an output that is too short.
 pub fn read_file(strip: &[u32], from: usize, header: &mut [u8], bytes: &mut [u8]) -> FileAnswer
-    ensures answer { λ r. ⌜ fileAnswer r ≡ mapped loadedOf (readFile (classes fixed (now (strip .entry))) (length (now (header .entry))) (length (now (bytes .entry))) from) ⌝ }
-    ensures header { λ _. ⌜ now (header .exit) ≡ putAt (now (header .entry)) 0 (puts (mapped headerOf (readFile (classes fixed (now (strip .entry))) (length (now (header .entry))) (length (now (bytes .entry))) from))) ⌝ }
-    ensures bytes { λ _. ⌜ now (bytes .exit) ≡ putAt (now (bytes .entry)) 0 (puts (mapped bytesOf (readFile (classes fixed (now (strip .entry))) (length (now (header .entry))) (length (now (bytes .entry))) from))) ⌝ }
+    ensures { λ r. ⌜ Reads (readFile (classes fixed (now (strip .entry))) (length (now (header .entry))) (length (now (bytes .entry))) from) (now (header .entry)) (now (bytes .entry)) r (now (header .exit)) (now (bytes .exit)) ⌝ }
 {
     let mut h = [0u8; header::HEADER_BYTES];
     match block::read_block(strip, from, header::HEADER_BYTES, &mut h) {
@@ -93,8 +86,7 @@ fn write_blocks(
     out: &mut [u32],
 ) -> Put
     requires { ⌜ wrongSize (length (now bytes)) ≡ false ⌝ }
-    ensures answer { λ r. ⌜ putAnswer r ≡ mapped length (writeBlocks (length (now (out .entry))) leader0 header leader1 (now (bytes .entry))) ⌝ }
-    ensures put { λ _. ⌜ now (out .exit) ≡ putAt (now (out .entry)) 0 (puts (writeBlocks (length (now (out .entry))) leader0 header leader1 (now (bytes .entry)))) ⌝ }
+    ensures { λ r. ⌜ Written (writeBlocks (length (now (out .entry))) leader0 header leader1 (now (bytes .entry))) (now (out .entry)) r (now (out .exit)) ⌝ }
 {
     let Put::Count(first) = block::measure_block(header::HEADER_BYTES, leader0) else {
         return Put::Refused(refusal::at(Reason::WrongLeader, 0));
@@ -150,9 +142,7 @@ fn read_data(
     header: &mut [u8],
     bytes: &mut [u8],
 ) -> FileAnswer
-    ensures answer { λ r. ⌜ fileAnswer r ≡ mapped loadedOf (readData (readFrom (classes fixed (now (strip .entry)))) (length (now (header .entry))) (length (now (bytes .entry))) from h) ⌝ }
-    ensures header { λ _. ⌜ now (header .exit) ≡ putAt (now (header .entry)) 0 (puts (mapped headerOf (readData (readFrom (classes fixed (now (strip .entry)))) (length (now (header .entry))) (length (now (bytes .entry))) from h))) ⌝ }
-    ensures bytes { λ _. ⌜ now (bytes .exit) ≡ putAt (now (bytes .entry)) 0 (puts (mapped bytesOf (readData (readFrom (classes fixed (now (strip .entry)))) (length (now (header .entry))) (length (now (bytes .entry))) from h))) ⌝ }
+    ensures { λ r. ⌜ Reads (readData (readFrom (classes fixed (now (strip .entry)))) (length (now (header .entry))) (length (now (bytes .entry))) from h) (now (header .entry)) (now (bytes .entry)) r (now (header .exit)) (now (bytes .exit)) ⌝ }
 {
     let fields = header::fields_of(h);
     if not_program(fields.kind) {

@@ -26,6 +26,11 @@ module _ (name : List ℕ) where
   unfolding filled
   filled-at i h = getD-tabulate (λ j. getD name j 0x20) 187 0 i h ∙ rw zero-add
 
+  spaces-past : (i : ℕ) → length name ≤ i → i < 187 → getD (name ++ replicate (187 - length name) 0x20) i 0 ≡ 0x20
+  spaces-past i a b =
+      let e : length name + (i - length name) ≡ i = omega arith in
+      rw (← e) (getD-append-add name (replicate (187 - length name) 0x20) (i - length name) 0 ∙ getD-replicate (187 - length name) (i - length name) 0x20 0 (omega arith))
+
   -- the name, and $20 in all places after it
   pub filled-name : length name ≤ 187 → filled name ≡ name ++ replicate (187 - length name) 0x20
   filled-name fits =
@@ -35,11 +40,7 @@ module _ (name : List ℕ) where
       (λ i h. let l : i < 187 = rw length-filled at h in
       filled-at i l ∙ elim (decLt i (length name)) [
         | yes m ↦ getD-within name i 0x20 0 m ∙ sym (List·getD-append name spaces 0 i m)
-        | no m ↦ (
-            let e : length name + (i - length name) ≡ i = omega arith in
-            let k : i - length name < 187 - length name = omega arith in
-            List·getD-eq-default name 0x20 (omega arith) ∙ sym (getD-replicate (187 - length name) (i - length name) 0x20 0 k)
-            ∙ sym (getD-append-add name spaces (i - length name) 0) ∙ ap (λ j. getD (name ++ spaces) j 0) e)
+        | no m ↦ List·getD-eq-default name 0x20 (omega arith) ∙ sym (spaces-past i (omega arith) l)
       ])
 
   pub below-filled : Below 256 name → Below 256 (filled name)

@@ -20,7 +20,7 @@ lowByte word = word % 256
 abbrev pub highByte : (word : ℕ) → ℕ
 highByte word = word / 256
 
--- 187 bytes of name; a shorter name is filled with $20
+-- 187 bytes of name; a shorter name is filled with $20. Of a longer one, which packing and writing refuse, it is the first 187.
 unfoldable pub filled : (name : List ℕ) → List ℕ
 filled name = tabulate (λ i. getD name i 0x20) 187 0
 

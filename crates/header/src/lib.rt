@@ -12,7 +12,7 @@ ghost use mathlib.Core.Path.{_≡_};
 ghost use lib.ListN.{length, getD};
 ghost use lib.Seq.{sets};
 ghost use Rattle.lists.specs.Buffer.{putAt};
-ghost use Rattle.refusal.specs.Refusal.{mapped, puts, putAnswer};
+ghost use Rattle.refusal.specs.Refusal.{Written};
 ghost use Rattle.header.specs.Header.{lowByte, highByte, filled, headerBytes, wordAt, fieldsOf, wrongName, wrongType, packHeader, unpackHeader, headerAnswer, shownCount, shownName};
 
 pub const HEADER_BYTES: usize = 192;
@@ -50,8 +50,7 @@ pub enum HeaderAnswer {
 // Puts a header together in a lent buffer, and answers the number of bytes put. It refuses a name that is too long, a type outside
 // 1 to 5 and an output that is too short.
 pub fn pack_header(fields: Fields, name: &[u8], out: &mut [u8]) -> Put
-    ensures answer { λ r. ⌜ putAnswer r ≡ mapped length (packHeader (length (now (out .entry))) fields (now (name .entry))) ⌝ }
-    ensures put { λ _. ⌜ now (out .exit) ≡ putAt (now (out .entry)) 0 (puts (packHeader (length (now (out .entry))) fields (now (name .entry)))) ⌝ }
+    ensures { λ r. ⌜ Written (packHeader (length (now (out .entry))) fields (now (name .entry))) (now (out .entry)) r (now (out .exit)) ⌝ }
 {
     if wrong_name(name.len()) {
         return Put::Refused(refusal::at(Reason::WrongSize, 0));

@@ -35,19 +35,14 @@ part-put buffer at values h =
     (ap (take (length values)) (drop-at (take at buffer) (values ++ drop (at + length values) buffer) at (length-take-le at buffer (omega arith)))
     ∙ take-at values (drop (at + length values) buffer) (length values) refl)
 
--- and what stands after it stays
-pub rest-put : (buffer : List ℕ) (at : ℕ) (values : List ℕ) → at + length values ≤ length buffer
-    → drop (at + length values) (putAt buffer at values) ≡ drop (at + length values) buffer
-unfolding putAt
-rest-put buffer at values h =
-    rw (le-leb (at + length values) (length buffer) h)
-    (drop-at (take at buffer ++ values) (drop (at + length values) buffer) (at + length values)
-    (length-append (take at buffer) values ∙ ap (λ n. n + length values) (length-take-le at buffer (omega arith))))
-
 -- values put in front
 pub put-front : (buffer values : List ℕ) → length values ≤ length buffer → putAt buffer 0 values ≡ values ++ drop (length values) buffer
 unfolding putAt
 put-front buffer values h = rw (zero-add, le-leb (length values) (length buffer) h)
+
+-- what stands after them stays
+pub rest-front : (buffer values : List ℕ) (n : ℕ) → length values ≡ n → n ≤ length buffer → drop n (putAt buffer 0 values) ≡ drop n buffer
+rest-front buffer values n e h = rw (← e) (rw (put-front buffer values (omega arith)) (drop-append-seam values (drop (length values) buffer)))
 
 -- values that fill the buffer
 pub put-whole : (buffer values : List ℕ) → length values ≡ length buffer → putAt buffer 0 values ≡ values

@@ -83,7 +83,7 @@ abbrev pub andThen : {A B : Type 0} → Outcome A → (A → Outcome B) → Outc
 andThen (refused number block place) next = refused number block place
 andThen (accepted given) next = next given
 
--- what is put into a lent buffer; a refusal puts nothing
+-- what is put into a lent buffer, or handed back as a part of one; by a refusal nothing is
 abbrev pub puts : Outcome (List ℕ) → List ℕ
 puts (refused number block place) = []
 puts (accepted given) = given

@@ -27,7 +27,7 @@ pub struct Refusal {
     pub place: usize,
 }
 
-// What a writer answers: how many elements it put, or why it put none.
+// What a writer answers: how many elements it puts, or why it puts none.
 pub enum Put {
     Count(usize),
     Refused(Refusal),
