@@ -1,7 +1,8 @@
 -- Unpacking and the shown name: what the loop keeps, and what the calls come to.
 use Prim.Native.Nat.{ℕ, zero, suc, _+_, _-_, _<_}
+use native.Mathlib.Nat.{add-zero}
 use native.Mathlib.Omega.{arith}
-use mathlib.Core.Path.{_≡_, sym, ap, _∙_}
+use mathlib.Core.Path.{_≡_, refl, sym, ap, _∙_}
 use mathlib.Core.Bool.{true, false, not}
 use mathlib.Core.List.{List, []}
 use borrow.Author.Tests.{eq-eqb, ne-eqb, eqb-true, not-false}
@@ -14,7 +15,7 @@ use Rattle.refusal.proofs.OutcomeLaws.{accepted-next}
 use Rattle.header.specs.declared.Fields.{Fields}
 use Rattle.header.specs.declared.HeaderAnswer.{HeaderAnswer}
 use Rattle.header.specs.declared.HeaderAnswer.the-variants.{Accepted, Refused}
-use Rattle.header.specs.Header.{fieldsOf, wrongType, unpackHeader, headerAnswer, shownCount, shownName}
+use Rattle.header.specs.Header.{fieldsOf, wrongType, unpackHeader, headerAnswer, shownCount, shownName, shownPlace, pointerAt}
 
 -- ---- What unpacking comes to
 
@@ -50,17 +51,18 @@ shown-here h zero z e = absurd (omega arith)
 shown-here h (suc n) z e = rw (ne-eqb (getD h (5 + n) 0) 0x20 (λ q. e (sym (shown-at h n) ∙ q)))
 
 module _ (h : List ℕ) {a : HeaderAnswer} (e : headerAnswer a ≡ unpackHeader h) where
-  pub shown-none : {r : Refusal} → a ≡ Refused r → [] ≡ shownName h
-  unfolding shownName
-  shown-none q = rw (← e, q)
+  pub shown-none : {r : Refusal} → a ≡ Refused r → (p : ℕ × ℕ) → ([] ≡ shownName h) × (p ≡ pointerAt p (shownPlace h))
+  unfolding shownName shownPlace
+  shown-none q p = rw (← e, q) (refl, ap (λ k. (p .0, k)) (sym (add-zero (p .1))))
 
   module _ {f : Fields} (q : a ≡ Accepted f) where
     pub shown-long : length h ≡ 192
     unfolding unpackHeader
     shown-long = eqb-true (length h) 192 (not-false (eqb (length h) 192) (accepted-next (not (eqb (length h) 192)) (refusalAt WrongSize 0) _ f (sym e ∙ ap headerAnswer q) .0))
 
-    pub shown-some : {n : ℕ} → n ≡ shownCount h 16 → take (5 + n - 5) (drop 5 h) ≡ shownName h
-    unfolding shownName
-    shown-some {n} s =
+    pub shown-some : {n : ℕ} → n ≡ shownCount h 16 → (p : ℕ × ℕ) → (take (5 + n - 5) (drop 5 h) ≡ shownName h) × ((p .0, 5 + p .1) ≡ pointerAt p (shownPlace h))
+    unfolding shownName shownPlace
+    shown-some {n} s p =
         let z : 5 + n - 5 ≡ n = omega arith in
-        rw (← e, q, z, s)
+        let c : 5 + p .1 ≡ p .1 + 5 = omega arith in
+        rw (← e, q) (rw (z, s), ap (λ k. (p .0, k)) c)

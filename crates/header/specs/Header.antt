@@ -6,7 +6,7 @@ use lib.Dec.{eqb, ltb}
 use lib.ListN.{length, getD}
 use Rattle.lists.specs.Places.{tabulate, part}
 use Rattle.refusal.specs.declared.Reason.the-variants.{WrongSize, NoRoom, WrongType}
-use Rattle.refusal.specs.Refusal.{Outcome, accepted, refuse, told, mapped, puts}
+use Rattle.refusal.specs.Refusal.{Outcome, refused, accepted, refuse, told, mapped, puts}
 use Rattle.header.specs.declared.Fields.{Fields}
 use Rattle.header.specs.declared.HeaderAnswer.{HeaderAnswer}
 use Rattle.header.specs.declared.HeaderAnswer.the-variants.{Accepted, Refused}
@@ -77,3 +77,15 @@ shownCount h (suc n) = cond (eqb (getD h (5 + n) 0) 0x20) (shownCount h n) (suc 
 -- the part of the header that holds the first 16 without those spaces; empty where unpacking refuses
 unfoldable pub shownName : (header : List ℕ) → List ℕ
 shownName h = puts (mapped (λ _. part h 5 (shownCount h 16)) (unpackHeader h))
+
+-- the place of the header where that part begins: byte 5, or the header's own beginning where unpacking refuses
+abbrev pub nameAt : Outcome Fields → ℕ
+nameAt (refused number block place) = 0
+nameAt (accepted fields) = 5
+
+unfoldable pub shownPlace : (header : List ℕ) → ℕ
+shownPlace h = nameAt (unpackHeader h)
+
+-- the pointer to the element k places on: a pointer is a block of memory and a place in it
+abbrev pub pointerAt : ℕ × ℕ → ℕ → ℕ × ℕ
+pointerAt p k = (p .0, p .1 + k)

@@ -13,7 +13,7 @@ ghost use lib.ListN.{length, getD};
 ghost use lib.Seq.{sets};
 ghost use Rattle.lists.specs.Buffer.{putAt};
 ghost use Rattle.refusal.specs.Refusal.{Written};
-ghost use Rattle.header.specs.Header.{lowByte, highByte, filled, headerBytes, wordAt, fieldsOf, wrongName, wrongType, packHeader, unpackHeader, headerAnswer, shownCount, shownName};
+ghost use Rattle.header.specs.Header.{lowByte, highByte, filled, headerBytes, wordAt, fieldsOf, wrongName, wrongType, packHeader, unpackHeader, headerAnswer, shownCount, shownName, shownPlace, pointerAt};
 
 pub const HEADER_BYTES: usize = 192;
 
@@ -81,7 +81,8 @@ pub fn unpack_header(header: &[u8]) -> HeaderAnswer
 // The shown name, as the part of the header that holds it: the first 16 bytes of the name without the spaces at their end. It is
 // empty for a header that `unpack_header` refuses.
 pub fn shown_name(header: &[u8]) -> &[u8]
-    ensures { λ r. ⌜ now r ≡ shownName (now (header .entry)) ⌝ }
+    ensures bytes { λ r. ⌜ now r ≡ shownName (now (header .entry)) ⌝ }
+    ensures place { λ r. ⌜ r .ptr ≡ pointerAt (header .entry .ptr) (shownPlace (now (header .entry))) ⌝ }
 {
     let HeaderAnswer::Accepted(_) = unpack_header(header) else {
         return &header[..0];

@@ -34,7 +34,8 @@ slice-aggregate-result c = search needs
 returns : tie.Need-returns
 returns c =
     let u = c .before .before .before in
-    shown-none (now (u .before .before .args .header)) (u .unpack-header .ensures) (c .before .enum-told2 .given .1)
+    let h = u .before .before .args .header in
+    shown-none (now h) (u .unpack-header .ensures) (c .before .enum-told2 .given .1) (h .ptr)
 
 shown-count-requires : tie.Need-shown-count-requires
 shown-count-requires c κs = let l = long c in omega arith
@@ -55,7 +56,8 @@ returns-2 : tie.Need-returns-2
 returns-2 c =
     let s = c .before in
     let u = s .before .before .before in
-    shown-some (now (u .before .before .args .header)) (u .unpack-header .ensures) (s .before .enum-told .given .1) (s .shown-count .ensures)
+    let h = u .before .before .args .header in
+    shown-some (now h) (u .unpack-header .ensures) (s .before .enum-told .given .1) (s .shown-count .ensures) (h .ptr)
 
 pub shown-name-spec : {M : Type 1} → statement M
 shown-name-spec =
