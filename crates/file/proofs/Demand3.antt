@@ -23,7 +23,8 @@ use Rattle.file.specs.declared.FileAnswer.{FileAnswer}
 use Rattle.file.specs.declared.FileAnswer.the-variants.{Accepted, Refused}
 use Rattle.file.specs.File.{File, fileHeader, headerPulses, dataPulses, filePulses, dataBytes, writeFile}
 use Rattle.file.specs.Reading.{FileRead, loadedOf, headerOf, bytesOf, readFile, fileAnswer, Reads}
-use Rattle.file.specs.Damage.{FileDamaged, Typed, Sent, Enough, Returned, SameFile}
+use Rattle.file.specs.Damage.{FileDamaged}
+use Rattle.file.specs.Claim.{Typed, Sent, Enough, Returned, SameFile, Demand3}
 use Rattle.file.proofs.FileLaws.{Taken, accepted-taken, taken-accepted, length-filePulses, file-read}
 
 -- what the file is read as
@@ -59,10 +60,10 @@ module _ {f : File} {out out′ : List ℕ} {count : ℕ} (sent : Sent f out cou
         let stop : endOf p n ≡ length strip - 61 = omega (arith, d .long, length-count, length-filePulses f) in
         r ∙ rw (fields-header (f .fields) (f .name), stop)
 
-    -- Demand 3. What the reader promises is its contract, from place 0 on.
-    pub demand-3 : (h b : List ℕ) (r : FileAnswer) (h′ b′ : List ℕ) → Enough f h b → Reads (readFile (classes fixed strip) (length h) (length b) 0) h b r h′ b′
+    -- what the reader promises from place 0 on is to return the file
+    returned : (h b : List ℕ) (r : FileAnswer) (h′ b′ : List ℕ) → Enough f h b → Reads (readFile (classes fixed strip) (length h) (length b) 0) h b r h′ b′
         → Returned f strip h b r h′ b′
-    demand-3 h b r h′ b′ enough promised =
+    returned h b r h′ b′ enough promised =
         let e = readFile-damaged (length h) (length b) (enough .header) (enough .bytes) in
         let put₀ : h′ ≡ putAt h 0 (fileHeader f) = promised .1 .0 ∙ ap (λ o. putAt h 0 (puts (mapped headerOf o))) e in
         let put₁ : b′ ≡ putAt b 0 (f .bytes) = promised .1 .1 ∙ ap (λ o. putAt b 0 (puts (mapped bytesOf o))) e in
@@ -92,9 +93,6 @@ module _ {f g : File} {out out′ other other′ : List ℕ} {count count′ : �
         bytes = ap bytesOf same;
       }
 
-  pub files-apart : (SameFile f g → ⊥) → FileDamaged f count strip → FileDamaged g count′ strip → ⊥
-  files-apart differ d d′ = differ (same-file d d′)
-
 -- ---- The file as written
 
 -- it lies within its own damage
@@ -109,11 +107,20 @@ file-undamaged f = record {
 }
 
 -- and so does what the writer left in the buffer, as many pulses as it answered
-pub sent-undamaged : {f : File} {out out′ : List ℕ} {count : ℕ} → Sent f out count out′ → FileDamaged f count (part out′ 0 count)
+sent-undamaged : {f : File} {out out′ : List ℕ} {count : ℕ} → Sent f out count out′ → FileDamaged f count (part out′ 0 count)
 sent-undamaged {f} {out} sent =
     let t = taken sent in
     let fits = t .fits in
     rw (sent .promised .1, taken-accepted (length out) f t, ← (length-count sent), part-put out 0 (filePulses f) (omega arith)) (file-undamaged f)
+
+-- ---- Demand 3
+
+pub demand-3 : Demand3
+demand-3 = record {
+  returned = λ f out count out′ sent strip d h b enough r h′ b′. returned sent d h b r h′ b′ enough;
+  apart = λ f g out other count count′ out′ other′ sent sent′ differ strip d d′. differ (same-file sent sent′ d d′);
+  within = λ f out count out′ sent. sent-undamaged sent;
+}
 
 -- ---- The claim is not empty
 

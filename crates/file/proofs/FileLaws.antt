@@ -26,7 +26,8 @@ use Rattle.header.specs.Header.{wrongName, fieldsOf}
 use Rattle.header.proofs.HeaderLaws.{length-header, fields-header, below-header}
 use Rattle.file.specs.File.{File, fileHeader, headerPulses, dataPulses, filePulses, notProgram, wrongAddresses, dataBytes, writeBlocks, writeFile}
 use Rattle.file.specs.Reading.{BlockReader, fileRead, readData, readFileBy, readFile}
-use Rattle.file.specs.Damage.{FileDamaged, Typed}
+use Rattle.file.specs.Damage.{FileDamaged}
+use Rattle.file.specs.Claim.{Typed}
 
 -- ---- The tests in words
 

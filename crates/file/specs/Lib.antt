@@ -1,3 +1,4 @@
 pub mod File
 pub mod Reading
 pub mod Damage
+pub mod Claim
