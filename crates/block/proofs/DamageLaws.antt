@@ -23,7 +23,7 @@ use Rattle.refusal.specs.Refusal.{accepted, refusalAt}
 use Rattle.refusal.proofs.OutcomeLaws.{accepted-next, then-accepted}
 use Rattle.pulse.specs.declared.Class.{Class}
 use Rattle.pulse.specs.declared.Class.the-variants.{Short, Noise}
-use Rattle.pulse.specs.Pulse.{fixed, classOf, classes, same, writtenAs}
+use Rattle.pulse.specs.Pulse.{fixed, classOf, classes, writtenAs}
 use Rattle.pulse.proofs.PulseLaws.{class-at, written-lt, classes-pulses}
 use Rattle.byte.specs.declared.ByteRead.{ByteRead}
 use Rattle.byte.specs.declared.ByteRead.the-variants.{Good}

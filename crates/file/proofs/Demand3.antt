@@ -12,7 +12,7 @@ use Rattle.lists.specs.Buffer.{putAt}
 use Rattle.lists.proofs.PartLaws.{part-part}
 use Rattle.lists.proofs.BufferLaws.{part-put, rest-front}
 use Rattle.refusal.specs.Refusal.{accepted, mapped, puts}
-use Rattle.refusal.proofs.OutcomeLaws.{accepted-once, mapped-accepted, written-accepted}
+use Rattle.refusal.proofs.OutcomeLaws.{accepted-once, mapped-accepted}
 use Rattle.pulse.specs.Pulse.{fixed, classes}
 use Rattle.block.specs.Reading.{endOf}
 use Rattle.block.proofs.BlockLaws.{length-blockPulses}
@@ -24,7 +24,7 @@ use Rattle.file.specs.declared.FileAnswer.the-variants.{Accepted, Refuse
 use Rattle.file.specs.File.{File, fileHeader, headerPulses, dataPulses, filePulses, dataBytes, writeFile}
 use Rattle.file.specs.Reading.{FileRead, loadedOf, headerOf, bytesOf, readFile, fileAnswer, Reads}
 use Rattle.file.specs.Damage.{FileDamaged}
-use Rattle.file.specs.Claim.{Typed, Sent, Enough, Returned, SameFile, Demand3}
+use Rattle.file.specs.Claim.{Sent, Enough, Returned, SameFile, Demand3}
 use Rattle.file.proofs.FileLaws.{Taken, accepted-taken, taken-accepted, length-filePulses, file-read}
 
 -- what the file is read as
@@ -121,9 +121,3 @@ demand-3 = record {
   apart = λ f g out other count count′ out′ other′ sent sent′ differ strip d d′. differ (same-file sent sent′ d d′);
   within = λ f out count out′ sent. sent-undamaged sent;
 }
-
--- ---- The claim is not empty
-
--- the writer accepts every right file, where there is room
-pub right-sent : {f : File} (out : List ℕ) → Typed f → Taken (length out) f → Sent f out (length (filePulses f)) (putAt out 0 (filePulses f))
-right-sent {f} out typed t = record { typed = typed; promised = written-accepted (writeFile (length out) f) out (taken-accepted (length out) f t) refl refl }

@@ -2,3 +2,4 @@ mod Writing
 mod Loading
 pub mod FileLaws
 pub mod Demand3
+pub mod NotEmpty

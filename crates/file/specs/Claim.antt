@@ -14,7 +14,7 @@ use Rattle.file.specs.File.{File, fileHeader, dataBytes, writeFile}
 use Rattle.file.specs.Reading.{readFile, Reads}
 use Rattle.file.specs.Damage.{FileDamaged}
 
--- What the types of the writer's parameters say: the type is a byte, addresses are 16-bit numbers, name and data are bytes.
+-- What the writer's parameters are as declared: the file's type is a byte, addresses are 16-bit numbers, name and data are bytes.
 pub record Typed (f : File) : Type 0 where
   pub kind : f .fields .kind < 256
   pub start : f .fields .start < 65536

@@ -6,7 +6,6 @@ use header::Fields;
 use refusal::Put;
 use refusal::Reason;
 use refusal::Refusal;
-ghost use Prim.Native.Nat.{_+_, _-_};
 ghost use mathlib.Core.Path.{_≡_};
 ghost use mathlib.Core.Bool.{false};
 ghost use lib.ListN.{length};
@@ -17,7 +16,7 @@ ghost use Rattle.block.specs.Reading.{readFrom};
 ghost use Rattle.file.specs.File.{file, notProgram, wrongAddresses, dataBytes, writeBlocks, writeFile};
 ghost use Rattle.file.specs.Reading.{readData, readFile, Reads};
 
-// The types that a program file has.
+// The types that a program file has: a program, and one that is bound to its start address.
 const PROGRAM: u8 = 1;
 
 const FIXED_PROGRAM: u8 = 3;

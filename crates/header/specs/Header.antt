@@ -36,7 +36,7 @@ wrongName n = ltb 187 n
 
 -- the type is not 1 to 5
 abbrev pub wrongType : (kind : ℕ) → Bool
-wrongType kind = eqb kind 0 || ltb 5 kind
+wrongType kind = ltb kind 1 || ltb 5 kind
 
 -- what is put into `room` places: refusals 1, 8, 2 in this order, else the header
 unfoldable pub packHeader : (room : ℕ) (fields : Fields) (name : List ℕ) → Outcome (List ℕ)
@@ -78,14 +78,14 @@ shownCount h (suc n) = cond (eqb (getD h (5 + n) 0) 0x20) (shownCount h n) (suc 
 unfoldable pub shownName : (header : List ℕ) → List ℕ
 shownName h = puts (mapped (λ _. part h 5 (shownCount h 16)) (unpackHeader h))
 
--- the place of the header where that part begins: byte 5, or the header's own beginning where unpacking refuses
 abbrev pub nameAt : Outcome Fields → ℕ
 nameAt (refused number block place) = 0
 nameAt (accepted fields) = 5
 
+-- the place of the header where that part begins: byte 5, or the header's own beginning where unpacking refuses
 unfoldable pub shownPlace : (header : List ℕ) → ℕ
 shownPlace h = nameAt (unpackHeader h)
 
--- the pointer to the element k places on: a pointer is a block of memory and a place in it
+-- the pointer k bytes on: a pointer is a block of memory and the place of a byte in it
 abbrev pub pointerAt : ℕ × ℕ → ℕ → ℕ × ℕ
 pointerAt p k = (p .0, p .1 + k)

@@ -7,7 +7,7 @@
 use refusal::Put;
 use refusal::Reason;
 use refusal::Refusal;
-ghost use Prim.Native.Nat.{_+_, _≤_, _<_};
+ghost use Prim.Native.Nat.{_+_, _≤_};
 ghost use mathlib.Core.Path.{_≡_};
 ghost use lib.ListN.{length, getD};
 ghost use lib.Seq.{sets};
@@ -32,7 +32,12 @@ const SHOWN_BYTES: usize = 16;
 
 const SPACE: u8 = 0x20;
 
+const LEAST_TYPE: u8 = 1;
+
 const MOST_TYPE: u8 = 5;
+
+// How many values a byte has: what the high byte of an address counts.
+const BYTE_VALUES: u16 = 256;
 
 // What a header says beside the name. The kind is what document 01 calls the type.
 pub struct Fields {
@@ -91,7 +96,7 @@ pub fn shown_name(header: &[u8]) -> &[u8]
     &header[NAME_AT..end]
 }
 
-// The bytes of a header. A longer name is cut to 187 bytes: whoever may not cut it asks `wrong_name` first.
+// The bytes of a header. A name over 187 bytes is cut; `wrong_name` tells whether it is.
 pub fn packed(fields: Fields, name: &[u8]) -> [u8; HEADER_BYTES]
     ensures { λ r. ⌜ r ≡ headerBytes fields (now (name .entry)) ⌝ }
 {
@@ -136,19 +141,19 @@ pub fn wrong_name(n: usize) -> bool
 fn wrong_type(kind: u8) -> bool
     ensures { λ r. ⌜ r ≡ wrongType kind ⌝ }
 {
-    (kind == 0) | (MOST_TYPE < kind)
+    (kind < LEAST_TYPE) | (MOST_TYPE < kind)
 }
 
 fn low_byte(word: u16) -> u8
     ensures { λ r. ⌜ r ≡ lowByte word ⌝ }
 {
-    (word % 256) as u8
+    (word % BYTE_VALUES) as u8
 }
 
 fn high_byte(word: u16) -> u8
     ensures { λ r. ⌜ r ≡ highByte word ⌝ }
 {
-    (word / 256) as u8
+    (word / BYTE_VALUES) as u8
 }
 
 // Byte i of a name, a space past its end.
@@ -184,7 +189,7 @@ fn word_at(header: &[u8], at: usize) -> u16
     requires { ⌜ at + 2 ≤ length (now header) ⌝ }
     ensures { λ r. ⌜ r ≡ wordAt (now (header .entry)) at ⌝ }
 {
-    header[at] as u16 + 256 * (header[at + 1] as u16)
+    header[at] as u16 + BYTE_VALUES * (header[at + 1] as u16)
 }
 
 fn shown_count(header: &[u8]) -> usize

@@ -27,7 +27,7 @@ pub struct Refusal {
     pub place: usize,
 }
 
-// What a writer answers: how many elements it puts, or why it puts none.
+// What a writer answers, or a measure of what it would put: how many elements, or why none.
 pub enum Put {
     Count(usize),
     Refused(Refusal),
@@ -55,7 +55,7 @@ pub fn number(reason: Reason) -> u32
     }
 }
 
-// A refusal that names no other block than 0.
+// A refusal that names block 0.
 pub fn at(reason: Reason, place: usize) -> Refusal
     ensures { λ r. ⌜ r ≡ refusalAt reason place ⌝ }
 {

@@ -9,7 +9,6 @@ use Rattle.pulse.specs.Pulse.{classes}
 use Rattle.block.specs.declared.Check.the-variants.{LostAt}
 use Rattle.block.specs.Reading.{placeAt}
 use Rattle.block.proofs.Checking.{Checking, begun, lost, next, sound, wrong}
-use Rattle.block.specs.Block.{checksum}
 use Rattle.block.proofs.check_values.Statement.{statement}
 use Rattle.block.proofs.check_values.Tie as tie
 

@@ -3,7 +3,6 @@ use Prim.Native.Nat.{_-_, _≤_}
 use native.Mathlib.Omega.{arith}
 use borrow.Author.Needs.{needs}
 use denote.Ref.{now}
-use Rattle.pulse.specs.Pulse.{pulses}
 use Rattle.block.proofs.Writing.{ShortsPut, shorts-begun, shorts-next, shorts-done}
 use Rattle.block.proofs.put_shorts.Statement.{statement}
 use Rattle.block.proofs.put_shorts.Tie as tie
