@@ -46,22 +46,6 @@ unfolding headerBytes
 header-put f name {a} {b} {c} {d} p q r s e =
     e ∙ sets-last (filled name) (set (set (set (set (set (replicate 192 0) 0 (f .kind)) 1 a) 2 b) 3 c) 4 d) 5 (rw length-filled) ∙ rw (p, q, r, s)
 
--- ---- A header put into a buffer
-
-module _ (before values : List ℕ) where
-  abbrev pub Copied : List ℕ → ℕ → Type 0
-  Copied out i = Putting before 0 values out i (drop i values)
-
-  pub copy-begun : Copied before 0
-  copy-begun = put-begun before 0 0 _ _ refl refl
-
-  module _ {out : List ℕ} {i : ℕ} (u : Copied out i) where
-    pub copy-next : i < length values → Copied (set out i (getD values i 0)) (i + 1)
-    copy-next h = put-one u (getD values i 0) _ (rw (add-one, drop-cons values i 0 h)) refl
-
-    pub copy-done : length values ≤ length before → length values ≤ i → out ≡ putAt before 0 values
-    copy-done room h = put-done u (drop-of-length-le values h) ∙ put-room before 0 values (rw zero-add room)
-
 -- ---- What packing comes to
 
 module _ (out : List ℕ) (f : Fields) (name : List ℕ) where

@@ -121,14 +121,7 @@ pub fn fields_of(header: [u8; HEADER_BYTES]) -> Fields
 pub fn put_header(header: [u8; HEADER_BYTES], out: &mut [u8])
     ensures { λ _. ⌜ now (out .exit) ≡ putAt (now (out .entry)) 0 header ⌝ }
 {
-    if out.len() < HEADER_BYTES {
-        return;
-    }
-    let mut i: usize = 0;
-    while i < HEADER_BYTES {
-        out[i] = header[i];
-        i = i + 1;
-    }
+    lists::put_bytes(&header, out, 0)
 }
 
 // Whether a name of this many bytes is too long.

@@ -4,3 +4,4 @@ pub mod PartLaws
 pub mod BufferLaws
 pub mod LoopLaws
 pub mod Table
+pub mod TextLaws

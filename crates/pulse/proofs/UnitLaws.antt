@@ -1,15 +1,17 @@
--- The two conversions are inverse to each other.
+-- Laws of the two conversions: when each gives a number, and that they are inverse to each other.
 use Prim.Native.Nat.{ℕ, _*_, _/_, _%_, _^_, _<_}
 use native.Mathlib.Omega.{arith}
 use mathlib.Core.Path.{_≡_}
-use borrow.Author.Tests.{lt-ltb, eq-eqb, eqb-true}
+use borrow.Author.Tests.{lt-ltb, eq-eqb, ne-eqb, eqb-true}
 use lib.Dec.{ltb, eqb}
 use Rattle.lists.proofs.BoolLaws.{cond-first}
 use Rattle.pulse.specs.declared.Cycles.{Cycles}
 use Rattle.pulse.specs.declared.Units.{Units}
 use Rattle.pulse.specs.declared.InCycles.the-variants.{Fits, TooLong}
 use Rattle.pulse.specs.declared.InUnits.the-variants.{Whole, Between}
-use Rattle.pulse.specs.Units.{cyclesOf, unitsOf}
+use Rattle.pulse.specs.Units.{unitCycles, cyclesOf, unitsOf}
+
+-- ---- Inverse
 
 pub units-cycles : (u : Units) (c : Cycles) → cyclesOf u ≡ Fits c → unitsOf c ≡ Whole u
 unfolding cyclesOf unitsOf
@@ -27,3 +29,19 @@ cycles-units c u fits e =
     let m : c .0 % 8 ≡ 0 = eqb-true (c .0 % 8) 0 (h .0) in
     let q : c .0 / 8 * 8 ≡ c .0 = omega arith in
     rw (← w, q, lt-ltb (c .0) (2 ^ 32) fits)
+
+-- ---- The cases
+
+-- what a pulse can count fits
+pub cycles-fit : (u : Units) → u .0 * unitCycles < 2 ^ 32 → cyclesOf u ≡ Fits (record { 0 = u .0 * unitCycles })
+unfolding cyclesOf
+cycles-fit u h = rw (lt-ltb (u .0 * unitCycles) (2 ^ 32) h)
+
+-- a multiple of a unit's cycles is whole
+pub units-whole : (c : Cycles) → c .0 % unitCycles ≡ 0 → unitsOf c ≡ Whole (record { 0 = c .0 / unitCycles })
+unfolding unitsOf
+units-whole c m = rw (eq-eqb (c .0 % unitCycles) 0 m)
+
+pub units-between : (c : Cycles) → (c .0 % unitCycles ≡ 0 → ⊥) → unitsOf c ≡ Between
+unfolding unitsOf
+units-between c m = rw (ne-eqb (c .0 % unitCycles) 0 m)

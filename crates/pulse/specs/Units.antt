@@ -1,6 +1,6 @@
 -- Cycles and TAP units of eight cycles (document 01, 'Pulses'). Each is a type of its own, so that neither passes for the other
 -- without one of these conversions.
-use Prim.Native.Nat.{_*_, _/_, _%_, _^_}
+use Prim.Native.Nat.{ℕ, _*_, _/_, _%_, _^_}
 use mathlib.Core.Bool.{cond}
 use lib.Dec.{ltb, eqb}
 use Rattle.pulse.specs.declared.Cycles.{Cycles}
@@ -10,10 +10,14 @@ use Rattle.pulse.specs.declared.InCycles.the-variants.{Fits, TooLong}
 use Rattle.pulse.specs.declared.InUnits.{InUnits}
 use Rattle.pulse.specs.declared.InUnits.the-variants.{Whole, Between}
 
--- eight cycles to a unit; a pulse counts fewer than 2 ^ 32
-unfoldable pub cyclesOf : Units → InCycles
-cyclesOf u = cond (ltb (u .0 * 8) (2 ^ 32)) (Fits (record { 0 = u .0 * 8 })) TooLong
+-- eight cycles to a unit
+abbrev pub unitCycles : ℕ
+unitCycles = 8
 
--- the other way: only a multiple of eight cycles is a whole number of units
+-- units in cycles; a pulse counts fewer than 2 ^ 32
+unfoldable pub cyclesOf : Units → InCycles
+cyclesOf u = cond (ltb (u .0 * unitCycles) (2 ^ 32)) (Fits (record { 0 = u .0 * unitCycles })) TooLong
+
+-- the other way: only a multiple of a unit's cycles is a whole number of units
 unfoldable pub unitsOf : Cycles → InUnits
-unitsOf c = cond (eqb (c .0 % 8) 0) (Whole (record { 0 = c .0 / 8 })) Between
+unitsOf c = cond (eqb (c .0 % unitCycles) 0) (Whole (record { 0 = c .0 / unitCycles })) Between

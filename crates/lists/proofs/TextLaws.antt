@@ -1,0 +1,49 @@
+-- Laws of numbers as bytes and of equal lists.
+use Prim.Native.Nat.{ℕ, zero, suc, _+_, _*_, _/_, _%_, _^_, _<_}
+use native.Mathlib.Nat.{pow-suc}
+use native.Mathlib.Omega.{arith}
+use mathlib.Core.Path.{_≡_, refl, sym, ap, ap₂}
+use mathlib.Core.Bool.{Bool, true, false}
+use mathlib.Core.List.{List, [], _∷_}
+use borrow.Author.Tests.{eqb-true, eq-eqb}
+use lib.Dec.{eqb}
+use lib.ListN.{length}
+use Rattle.lists.specs.Text.{lowFirst, fromLow, equal}
+use Rattle.lists.proofs.BoolLaws.{and-true, not-holds}
+
+-- ---- lowFirst, fromLow
+
+pub length-low : (width n : ℕ) → length (lowFirst width n) ≡ width
+unfolding lowFirst
+length-low zero n = refl
+length-low (suc width) n = ap suc (length-low width (n / 256))
+
+-- bytes hold every number that is not too large for them
+pub from-low : (width n : ℕ) → n < 256 ^ width → fromLow (lowFirst width n) ≡ n
+unfolding lowFirst fromLow
+from-low zero n h = omega arith
+from-low (suc width) n h =
+    let b : n < 256 ^ width * 256 = rw (pow-suc 256 width) at h in
+    let r = from-low width (n / 256) (omega arith) in
+    rw r (omega arith)
+
+-- ---- equal
+
+pub equal-same : (xs ys : List ℕ) → equal xs ys ≡ true → xs ≡ ys
+unfolding equal
+equal-same [] [] e = refl
+equal-same [] (y ∷ ys) e = absurd (let z : _≡_ {A = ℕ} 0 1 = cc in omega arith)
+equal-same (x ∷ xs) [] e = absurd (let z : _≡_ {A = ℕ} 0 1 = cc in omega arith)
+equal-same (x ∷ xs) (y ∷ ys) e =
+    let s = and-true (eqb x y) (equal xs ys) e in
+    ap₂ (λ z (zs : List ℕ). z ∷ zs) (eqb-true x y (s .0)) (equal-same xs ys (s .1))
+
+pub same-equal : (xs : List ℕ) → equal xs xs ≡ true
+unfolding equal
+same-equal [] = refl
+same-equal (x ∷ xs) = rw (eq-eqb x x refl) (same-equal xs)
+
+-- an answer that says whether two lists are the same
+pub equal-is : (r : Bool) (xs ys : List ℕ) → (r ≡ true → xs ≡ ys) × (xs ≡ ys → r ≡ true) → r ≡ equal xs ys
+equal-is true xs ys s = sym (rw (← (s .0 refl)) (same-equal xs))
+equal-is false xs ys s = sym (not-holds (equal xs ys) (λ e. let q = s .1 (equal-same xs ys e) in let z : _≡_ {A = ℕ} 0 1 = cc in omega arith))

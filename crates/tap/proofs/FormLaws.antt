@@ -1,0 +1,133 @@
+-- Laws of the form that a duration is written in.
+use Prim.Native.Nat.{ℕ, zero, suc, _+_, _*_, _/_, _%_, _^_, _≤_, _<_}
+use native.Mathlib.Decide.{ℕ-discrete, decLe, decLt}
+use native.Mathlib.Numerals.{add-one}
+use native.Mathlib.Omega.{arith}
+use mathlib.Core.Path.{_≡_, refl, sym, ap, _∙_}
+use mathlib.Core.Logic.{_⊎_, inl, inr}
+use mathlib.Core.Bool.{Bool, true, false, cond, _&&_}
+use mathlib.Core.List.{List, [], _∷_, _++_}
+use borrow.Author.Tests.{eq-eqb, ne-eqb, le-leb, lt-leb, lt-ltb, le-ltb}
+use lib.Dec.{eqb, leb, ltb}
+use lib.ListN.{length, drop, getD, length-append, drop-of-length-le}
+use lib.Seq.{drop-cons}
+use Rattle.lists.specs.Text.{lowFirst, fromLow}
+use Rattle.lists.proofs.TextLaws.{length-low, from-low}
+use Rattle.pulse.specs.Units.{unitCycles}
+use Rattle.tap.specs.Tap.{longUnit, longForm, formOf, tapData}
+use Rattle.tap.specs.Forms.{byteUnits}
+
+-- ---- One byte
+
+module _ (d : ℕ) where
+  pub units-none : (d % unitCycles ≡ 0 → ⊥) → byteUnits d ≡ 0
+  unfolding byteUnits
+  units-none m = rw (ne-eqb (d % unitCycles) 0 m)
+
+  module _ (whole : d % unitCycles ≡ 0) where
+    pub units-few : d / unitCycles ≤ 255 → byteUnits d ≡ d / unitCycles
+    unfolding byteUnits
+    units-few h = rw (eq-eqb (d % unitCycles) 0 whole, le-leb (d / unitCycles) 255 h)
+
+    pub units-many : 255 < d / unitCycles → byteUnits d ≡ 0
+    unfolding byteUnits
+    units-many h = rw (eq-eqb (d % unitCycles) 0 whole, lt-leb (d / unitCycles) 255 h)
+
+  -- what is written where there is no one-byte form
+  abbrev pub otherForm : (version : ℕ) → List ℕ
+  otherForm v = cond (eqb v 0) (cond (eqb d 2048) (0 ∷ []) []) (longForm d)
+
+  one-byte : (v : ℕ) → d % unitCycles ≡ 0 → 8 ≤ d → d ≤ 2040 → formOf v d ≡ d / unitCycles ∷ []
+  unfolding formOf
+  one-byte v m a b = rw (eq-eqb (d % unitCycles) 0 m, le-leb 8 d a, le-leb d 2040 b)
+
+  -- the tests of the definition, and the number of units, pick the same form
+  pub form-units : (v : ℕ) → (byteUnits d ≡ 0 → ⊥) → formOf v d ≡ byteUnits d ∷ []
+  form-units v n = elim (ℕ-discrete (d % unitCycles) 0) [
+    | yes m ↦ elim (decLe (d / unitCycles) 255) [
+      | yes h ↦
+          let e = units-few m h in
+          let p : d / unitCycles ≡ 0 → ⊥ = λ z. n (e ∙ z) in
+          one-byte v m (omega arith) (omega arith) ∙ ap (λ u. u ∷ []) (sym e)
+      | no h ↦ absurd (n (units-many m (omega arith)))
+    ]
+    | no m ↦ absurd (n (units-none m))
+  ]
+
+  pub form-other : (v : ℕ) → byteUnits d ≡ 0 → formOf v d ≡ otherForm v
+  unfolding formOf
+  form-other v z = elim (ℕ-discrete (d % unitCycles) 0) [
+    | yes m ↦ elim (decLe 8 d) [
+      | yes a ↦ elim (decLe d 2040) [
+        | yes b ↦ absurd (let e = units-few m (omega arith) in omega arith)
+        | no b ↦ rw (eq-eqb (d % unitCycles) 0 m, le-leb 8 d a, lt-leb d 2040 (omega arith))
+      ]
+      | no a ↦ rw (eq-eqb (d % unitCycles) 0 m, lt-leb 8 d (omega arith))
+    ]
+    | no m ↦ rw (ne-eqb (d % unitCycles) 0 m)
+  ]
+
+  -- ---- The long form
+
+  pub long-between : (d % longUnit ≡ 0 → ⊥) → longForm d ≡ []
+  unfolding longForm
+  long-between m = rw (ne-eqb (d % longUnit) 0 m)
+
+  module _ (whole : d % longUnit ≡ 0) where
+    pub long-fits : d / longUnit < 2 ^ 24 → longForm d ≡ 0 ∷ lowFirst 3 (d / longUnit)
+    unfolding longForm
+    long-fits h = rw (eq-eqb (d % longUnit) 0 whole, lt-ltb (d / longUnit) (2 ^ 24) h)
+
+    pub long-over : 2 ^ 24 ≤ d / longUnit → longForm d ≡ []
+    unfolding longForm
+    long-over h = rw (eq-eqb (d % longUnit) 0 whole, le-ltb (d / longUnit) (2 ^ 24) h)
+
+  -- ---- What is written otherwise
+
+  module _ (v : ℕ) (none : byteUnits d ≡ 0) where
+    pub form-long : (v ≡ 0 → ⊥) → formOf v d ≡ longForm d
+    form-long n = form-other v none ∙ rw (ne-eqb v 0 n)
+
+    module _ (z : v ≡ 0) where
+      pub form-zero : d ≡ 2048 → formOf v d ≡ 0 ∷ []
+      form-zero e = form-other v none ∙ rw (eq-eqb v 0 z, eq-eqb d 2048 e)
+
+      pub form-missing : (d ≡ 2048 → ⊥) → formOf v d ≡ []
+      form-missing n = form-other v none ∙ rw (eq-eqb v 0 z, ne-eqb d 2048 n)
+
+-- ---- The length of a form
+
+width-long : (d : ℕ) → length (longForm d) ≤ 4
+unfolding longForm lowFirst
+width-long d = go (eqb (d % longUnit) 0 && ltb (d / longUnit) (2 ^ 24))
+  where
+    go : (t : Bool) → length (cond t (0 ∷ lowFirst 3 (d / longUnit)) []) ≤ 4
+    go true = omega arith
+    go false = omega arith
+
+pub width-form : (v d : ℕ) → length (formOf v d) ≤ 4
+unfolding formOf
+width-form v d = go (eqb (d % unitCycles) 0 && leb 8 d && leb d 2040) (eqb v 0) (eqb d 2048)
+  where
+    go : (one old full : Bool) → length (cond one (d / unitCycles ∷ []) (cond old (cond full (0 ∷ []) []) (longForm d))) ≤ 4
+    go true old full = omega arith
+    go false true true = omega arith
+    go false true false = omega arith
+    go false false full = width-long d
+
+-- ---- tapData
+
+-- the form of one duration, and those of the rest
+pub data-next : (v : ℕ) (ds : List ℕ) (i : ℕ) → i < length ds → tapData v (drop i ds) ≡ formOf v (getD ds i 0) ++ tapData v (drop (i + 1) ds)
+unfolding tapData
+data-next v ds i h = rw (drop-cons ds i 0 h, add-one)
+
+pub data-over : (v : ℕ) (ds : List ℕ) (i : ℕ) → length ds ≤ i → tapData v (drop i ds) ≡ []
+unfolding tapData
+data-over v ds i h = rw (drop-of-length-le ds {i = i} h)
+
+-- four bytes each at most
+pub width-data : (v : ℕ) (ds : List ℕ) → length (tapData v ds) ≤ 4 * length ds
+unfolding tapData
+width-data v [] = omega arith
+width-data v (d ∷ ds) = rw length-append (omega (arith, width-form v d, width-data v ds))

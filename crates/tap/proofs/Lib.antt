@@ -1,0 +1,6 @@
+mod Converting
+mod Writing
+mod Decoding
+mod Heading
+pub mod DataLaws
+pub mod FormLaws

@@ -1,0 +1,33 @@
+-- `tap::byte_units` meets its contract: between two units there is none, and a whole number counts where one byte holds it.
+use Prim.Native.Nat.{_-_}
+use borrow.Author.Needs.{needs}
+use Rattle.tap.proofs.Converting.{between, few, many}
+use Rattle.tap.proofs.byte_units.Statement.{statement}
+use Rattle.tap.proofs.byte_units.Tie as tie
+use Rattle.pulse.proofs.units_of.Reads as units-of-reads
+
+units-of-requires : tie.Need-units-of-requires
+units-of-requires c κs = search needs
+
+enum-known-u : tie.Need-enum-known-u
+enum-known-u c = search needs
+
+enum-told : tie.Need-enum-told
+enum-told c = search needs
+
+returns : tie.Need-returns
+returns c = let f = c .before .before in between (f .before .args .duration) (f .units-of .ensures) (c .enum-told .given .1)
+
+cast-result : tie.Need-cast-result
+cast-result c = search needs
+
+returns-2 : tie.Need-returns-2
+returns-2 c = let k = c .before .before in let f = k .before .before in few (f .before .args .duration) (f .units-of .ensures) (k .u .given .1) (c .if1 .taken)
+
+returns-3 : tie.Need-returns-3
+returns-3 c = let k = c .before .before in let f = k .before .before in many (f .before .args .duration) (f .units-of .ensures) (k .u .given .1) (c .if1 .left)
+
+pub byte-units-spec : {M : Type 1} → statement M
+byte-units-spec =
+    tie.close
+    (tie.spec units-of-requires enum-known-u enum-told returns cast-result returns-2 returns-3)

@@ -1,0 +1,65 @@
+-- `tap::put_long` meets its contract: four stores, one after the other.
+use Prim.Native.Nat.{_-_}
+use native.Mathlib.Omega.{arith}
+use borrow.Author.Needs.{needs}
+use denote.Ref.{now}
+use lib.ListN.{length-set}
+use Rattle.tap.proofs.Writing.{long-put}
+use Rattle.tap.proofs.put_long.Statement.{statement}
+use Rattle.tap.proofs.put_long.Tie as tie
+use Rattle.tap.proofs.low_byte.Reads as low-byte-reads
+
+slice-write-out : tie.Need-slice-write-out
+slice-write-out c = search needs
+
+low-byte-requires : tie.Need-low-byte-requires
+low-byte-requires c κs = search needs
+
+add-out : tie.Need-add-out
+add-out c = search needs
+
+slice-write-out-2 : tie.Need-slice-write-out-2
+slice-write-out-2 c = simp length-set (omega arith)
+
+low-byte-requires-2 : tie.Need-low-byte-requires-2
+low-byte-requires-2 c κs = search needs
+
+add-out-2 : tie.Need-add-out-2
+add-out-2 c = search needs
+
+slice-write-out-3 : tie.Need-slice-write-out-3
+slice-write-out-3 c = simp length-set (omega arith)
+
+low-byte-requires-3 : tie.Need-low-byte-requires-3
+low-byte-requires-3 c κs = search needs
+
+add-out-3 : tie.Need-add-out-3
+add-out-3 c = search needs
+
+slice-write-out-4 : tie.Need-slice-write-out-4
+slice-write-out-4 c = simp length-set (omega arith)
+
+same-length : tie.Need-same-length
+same-length c = search needs
+
+returns : tie.Need-returns
+returns c =
+    let s = c .before .before .before .before .args in
+    long-put (now (s .out)) (s .at) (s .count) (c .before .before .low-byte .ensures) (c .before .low-byte2 .ensures) (c .low-byte3 .ensures)
+
+pub put-long-spec : {M : Type 1} → statement M
+put-long-spec =
+    tie.close
+    (tie.spec
+    slice-write-out
+    low-byte-requires
+    add-out
+    slice-write-out-2
+    low-byte-requires-2
+    add-out-2
+    slice-write-out-3
+    low-byte-requires-3
+    add-out-3
+    slice-write-out-4
+    same-length
+    returns)

@@ -1,0 +1,35 @@
+-- `tap::wrong_letters` meets its contract: too few bytes, or other letters in front.
+use Prim.Native.Nat.{_-_}
+use native.Mathlib.Omega.{arith}
+use mathlib.Core.Path.{sym}
+use borrow.Author.Needs.{needs}
+use denote.Ref.{now}
+use lib.Seq.{length-take-le}
+use Rattle.lists.specs.Text.{ascii}
+use Rattle.tap.proofs.Heading.{too-short, same-letters}
+use Rattle.tap.proofs.wrong_letters.Statement.{statement}
+use Rattle.tap.proofs.wrong_letters.Tie as tie
+use Rattle.check.proofs.same.Reads as same-reads
+
+returns : tie.Need-returns
+returns c = too-short (now (c .before .before .args .file)) (c .if1 .taken)
+
+slice-aggregate-same : tie.Need-slice-aggregate-same
+slice-aggregate-same c = let a = c .before .before .before .args in sym (length-take-le 12 (now (a .file)) (omega arith))
+
+slice-aggregate-same-2 : tie.Need-slice-aggregate-same-2
+slice-aggregate-same-2 c = search needs
+
+same-requires : tie.Need-same-requires
+same-requires c κs = search needs
+
+returns-2 : tie.Need-returns-2
+unfolding ascii
+returns-2 c =
+    let e = c .before .before .before in
+    same-letters (now (e .before .before .args .file)) (e .if1 .left) (c .same .ensures)
+
+pub wrong-letters-spec : {M : Type 1} → statement M
+wrong-letters-spec =
+    tie.close
+    (tie.spec returns slice-aggregate-same slice-aggregate-same-2 same-requires returns-2)

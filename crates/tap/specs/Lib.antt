@@ -1,0 +1,3 @@
+pub mod Tap
+pub mod Reading
+pub mod Forms

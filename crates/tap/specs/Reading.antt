@@ -1,0 +1,89 @@
+-- Reading TAP files (document 01, 'TAP files').
+use Prim.Native.Nat.{ℕ, zero, suc, _+_, _*_}
+use mathlib.Core.Path.{_≡_}
+use mathlib.Core.Bool.{Bool, cond, not, _||_}
+use mathlib.Core.List.{List, [], _∷_}
+use lib.Dec.{eqb, ltb}
+use lib.ListN.{length, take, drop, getD}
+use Rattle.lists.specs.Places.{part}
+use Rattle.lists.specs.Buffer.{putAt}
+use Rattle.lists.specs.Text.{fromLow, equal}
+use Rattle.refusal.specs.declared.Reason.the-variants.{NoRoom, WrongTapHeader, WrongTapVersion, CutLongForm}
+use Rattle.refusal.specs.Refusal.{Outcome, accepted, refuse, told, mapped, andThen, puts}
+use Rattle.pulse.specs.Units.{unitCycles}
+use Rattle.tap.specs.declared.Tape.{Tape}
+use Rattle.tap.specs.declared.TapAnswer.{TapAnswer}
+use Rattle.tap.specs.declared.TapAnswer.the-variants.{Accepted, Refused}
+use Rattle.tap.specs.Tap.{letters, longUnit, wrongVersion}
+
+-- ---- The header
+
+-- under 20 bytes, or wrong letters
+abbrev pub wrongLetters : (file : List ℕ) → Bool
+wrongLetters file = ltb (length file) 20 || not (equal (take 12 file) letters)
+
+-- reserved bytes not zero, or a wrong data count
+abbrev pub wrongCount : (file : List ℕ) → Bool
+wrongCount file = not (equal (part file 13 3) (0 ∷ 0 ∷ 0 ∷ [])) || not (eqb (fromLow (part file 16 4)) (length (drop 20 file)))
+
+-- refusals 10, 11 and 10 in this order, else the version
+unfoldable pub tapVersion : (file : List ℕ) → Outcome ℕ
+tapVersion file =
+    cond (wrongLetters file) (refuse WrongTapHeader 0)
+    (cond (wrongVersion (getD file 12 0)) (refuse WrongTapVersion 0)
+    (cond (wrongCount file) (refuse WrongTapHeader 0)
+    (accepted (getD file 12 0))))
+
+-- ---- The data
+
+-- the durations of data bytes that begin at index `at` of the data
+unfoldable pub durationsIn : (version at : ℕ) (bytes : List ℕ) → Outcome (List ℕ)
+durationsIn version at [] = accepted []
+-- a byte b that is not 0 is 8b cycles
+durationsIn version at (suc b ∷ bytes) = mapped (λ ds. suc b * unitCycles ∷ ds) (durationsIn version (at + 1) bytes)
+-- in version 0 a zero byte is read as 2,048 cycles
+durationsIn zero at (zero ∷ bytes) = mapped (λ ds. 2048 ∷ ds) (durationsIn zero (at + 1) bytes)
+-- in version 1 it is followed by three bytes, low first
+durationsIn (suc version) at (zero ∷ low ∷ middle ∷ high ∷ bytes) =
+    mapped (λ ds. fromLow (low ∷ middle ∷ high ∷ []) * longUnit ∷ ds) (durationsIn (suc version) (at + 4) bytes)
+-- fewer than three bytes after it
+durationsIn (suc version) at (zero ∷ low ∷ middle ∷ []) = refuse CutLongForm at
+durationsIn (suc version) at (zero ∷ low ∷ []) = refuse CutLongForm at
+durationsIn (suc version) at (zero ∷ []) = refuse CutLongForm at
+
+-- ---- The reader
+
+-- what a sound file holds
+pub record Tap : Type 0 where
+  pub version : ℕ
+  pub durations : List ℕ
+
+abbrev pub durationsOf : Tap → List ℕ
+durationsOf t = t .durations
+
+-- what is answered of it: its version and the number of durations
+abbrev pub tapeOf : Tap → Tape
+tapeOf t = record { version = t .version; count = length (t .durations) }
+
+abbrev pub tapWith : (version : ℕ) (durations : List ℕ) → Tap
+tapWith version ds = record { version = version; durations = ds }
+
+-- a file's version and durations, whatever room there is: refusals 10, 11, 10 and 12 in this order
+unfoldable pub tapOf : (file : List ℕ) → Outcome Tap
+tapOf file = andThen (tapVersion file) (λ v. mapped (tapWith v) (durationsIn v 0 (drop 20 file)))
+
+-- the durations into `room` places, or refusal 2
+unfoldable pub fitting : (room : ℕ) → Tap → Outcome Tap
+fitting room t = cond (ltb room (length (t .durations))) (refuse NoRoom 0) (accepted t)
+
+unfoldable pub readTap : (room : ℕ) (file : List ℕ) → Outcome Tap
+readTap room file = andThen (tapOf file) (fitting room)
+
+-- what the reader answers
+abbrev pub tapAnswer : TapAnswer → Outcome Tape
+tapAnswer (Accepted tape) = accepted tape
+tapAnswer (Refused r) = told r
+
+-- what the reader promises: it answers r and leaves out′ in the buffer that held out, as the outcome says
+abbrev pub Reads : (o : Outcome Tap) (out : List ℕ) (r : TapAnswer) (out′ : List ℕ) → Type 0
+Reads o out r out′ = (tapAnswer r ≡ mapped tapeOf o) × (out′ ≡ putAt out 0 (puts (mapped durationsOf o)))

@@ -1,0 +1,73 @@
+-- TAP files as written (document 01, 'TAP files').
+use Prim.Native.Nat.{ℕ, _+_, _/_, _%_, _^_}
+use mathlib.Core.Bool.{Bool, cond, _&&_}
+use mathlib.Core.List.{List, [], _∷_, _++_}
+use mathlib.Core.Option.{Option}
+use lib.Dec.{eqb, leb, ltb}
+use lib.ListN.{length, getD}
+use Rattle.lists.specs.Places.{firstFrom}
+use Rattle.lists.specs.Text.{ascii, lowFirst}
+use Rattle.refusal.specs.declared.Reason.the-variants.{WrongSize, NoRoom, WrongTapVersion, NoTapForm}
+use Rattle.refusal.specs.Refusal.{Outcome, accepted, refuse, refuseFirst, andThen}
+use Rattle.pulse.specs.Units.{unitCycles}
+
+-- ---- The layout
+
+abbrev pub letters : List ℕ
+letters = ascii "C64-TAPE-RAW"
+
+-- 20 bytes: the letters; the version; three zero bytes; the number of data bytes, four bytes, low first
+unfoldable pub tapHeader : (version count : ℕ) → List ℕ
+tapHeader version count = letters ++ version ∷ 0 ∷ 0 ∷ 0 ∷ lowFirst 4 count
+
+-- cycles to one count of the long form: following source document 003's own example it counts in units, until a real tape shows otherwise
+abbrev pub longUnit : ℕ
+longUnit = unitCycles
+
+-- a zero byte followed by three bytes, low first; none for a duration that is no whole count, or whose count three bytes do not hold
+unfoldable pub longForm : (duration : ℕ) → List ℕ
+longForm d = cond (eqb (d % longUnit) 0 && ltb (d / longUnit) (2 ^ 24)) (0 ∷ lowFirst 3 (d / longUnit)) []
+
+-- the bytes that a duration is written as; none where it has no form in this version
+unfoldable pub formOf : (version duration : ℕ) → List ℕ
+formOf version d =
+    -- the one-byte form for multiples of 8 from 8 to 2,040
+    cond (eqb (d % unitCycles) 0 && leb 8 d && leb d 2040) (d / unitCycles ∷ [])
+    -- version 0 writes 2,048 as a zero byte
+    (cond (eqb version 0) (cond (eqb d 2048) (0 ∷ []) [])
+    -- version 1 writes 0, and multiples of 8 from 2,048 to 134,217,720, in the long form
+    (longForm d))
+
+unfoldable pub tapData : (version : ℕ) (durations : List ℕ) → List ℕ
+tapData version [] = []
+tapData version (d ∷ ds) = formOf version d ++ tapData version ds
+
+-- 20 bytes, then data
+abbrev pub tapFile : (version : ℕ) (bytes : List ℕ) → List ℕ
+tapFile version bytes = tapHeader version (length bytes) ++ bytes
+
+-- ---- The writer
+
+abbrev pub wrongVersion : (version : ℕ) → Bool
+wrongVersion version = ltb 1 version
+
+abbrev pub hasNoForm : (version duration : ℕ) → Bool
+hasNoForm version d = eqb (length (formOf version d)) 0
+
+abbrev pub firstWithout : (version : ℕ) (durations : List ℕ) → Option ℕ
+firstWithout version ds = firstFrom (λ i. hasNoForm version (getD ds i 0)) (length ds) 0
+
+-- the data, or refusal 13 for the first duration that has no form
+unfoldable pub measured : (version : ℕ) (durations : List ℕ) → Outcome (List ℕ)
+measured version ds = refuseFirst NoTapForm (firstWithout version ds) (accepted (tapData version ds))
+
+-- a file with these data into `room` places, or refusal 2
+unfoldable pub placed : (room version : ℕ) (bytes : List ℕ) → Outcome (List ℕ)
+placed room version bytes = cond (ltb room (length (tapFile version bytes))) (refuse NoRoom 0) (accepted (tapFile version bytes))
+
+-- what is written into `room` places: refusals 1, 11, 13 and 2 in this order, else the file
+unfoldable pub writeTap : (room version : ℕ) (durations : List ℕ) → Outcome (List ℕ)
+writeTap room version ds =
+    cond (ltb 1048576 (length ds)) (refuse WrongSize 0)
+    (cond (wrongVersion version) (refuse WrongTapVersion 0)
+    (andThen (measured version ds) (placed room version)))

@@ -1,0 +1,405 @@
+// TAP files, in which emulators exchange tapes: a list of durations in cycles.
+//
+//   0 .. 11        12       13 .. 15  16 .. 19                         20 ..
+//   C64-TAPE-RAW   version  0, 0, 0   number of data bytes, low first  data
+//
+// A data byte that is not 0 counts units of eight cycles. A zero byte stands for 2,048 cycles in version 0; in version 1 a count of three
+// bytes follows it, low first, which is the long form.
+use pulse::Cycles;
+use pulse::InCycles;
+use pulse::InUnits;
+use pulse::Units;
+use refusal::Put;
+use refusal::Reason;
+use refusal::Refusal;
+ghost use Prim.Native.Nat.{_+_, _*_, _%_, _≤_, _<_};
+ghost use mathlib.Core.Path.{_≡_};
+ghost use mathlib.Core.List.{_∷_};
+ghost use lib.ListN.{length, getD};
+ghost use lib.Seq.{sets};
+ghost use Rattle.lists.specs.Places.{part};
+ghost use Rattle.lists.specs.Text.{fromLow, lowFirst};
+ghost use Rattle.refusal.specs.Refusal.{accepted, mapped, puts, putAnswer, Written};
+ghost use Rattle.pulse.specs.Units.{unitCycles};
+ghost use Rattle.tap.specs.Tap.{tapHeader, longUnit, longForm, formOf, tapData, measured, placed, writeTap};
+ghost use Rattle.tap.specs.Reading.{wrongLetters, wrongCount, tapVersion, durationsIn, readTap, Reads};
+ghost use Rattle.tap.specs.Forms.{versionAnswer, formBytes, byteUnits, formWidth, durationAt, readIn};
+
+const HEADER_BYTES: usize = 20;
+
+const LETTER_BYTES: usize = 12;
+
+const VERSION_AT: usize = 12;
+
+const RESERVED_AT: usize = 13;
+
+const COUNT_AT: usize = 16;
+
+const MOST_VERSION: u8 = 1;
+
+const MOST_DURATIONS: usize = 1_048_576;
+
+// What a zero byte stands for in version 0.
+const ZERO_CYCLES: u32 = 2048;
+
+// The most units that one byte counts.
+const MOST_BYTE_UNITS: u32 = 255;
+
+// A long form is a zero byte and three bytes of count.
+const LONG_BYTES: usize = 4;
+
+// How many counts three bytes have.
+const LONG_COUNTS: usize = 0x100_0000;
+
+// How many values a byte has: what each byte of a number counts of the one before it.
+const BYTE_VALUES: usize = 256;
+
+// What an accepted TAP file answers: its version, and the number of durations put.
+pub struct Tape {
+    pub version: u8,
+    pub count: usize,
+}
+
+// What the TAP reader answers.
+pub enum TapAnswer {
+    Accepted(Tape),
+    Refused(Refusal),
+}
+
+// Reads a TAP file: puts its durations, and answers its version and how many they are. It refuses a header that is cut short or wrong, a
+// version above 1, a long form that is cut short and an output that is too short.
+pub fn read_tap(file: &[u8], out: &mut [u32]) -> TapAnswer
+    ensures { λ r. ⌜ Reads (readTap (length (now (out .entry))) (now (file .entry))) (now (out .entry)) r (now (out .exit)) ⌝ }
+{
+    match read_header(file) {
+        Header::Refused(r) => TapAnswer::Refused(r),
+        Header::Version(version) => read_data(version, &file[HEADER_BYTES..], out),
+    }
+}
+
+// Writes durations as a TAP file of this version, and answers the number of bytes put. It refuses more than 1,048,576 durations, a
+// version above 1, a duration that has no form in that version and an output that is too short.
+pub fn write_tap(durations: &[u32], version: u8, out: &mut [u8]) -> Put
+    ensures { λ r. ⌜ Written (writeTap (length (now (out .entry))) version (now (durations .entry))) (now (out .entry)) r (now (out .exit)) ⌝ }
+{
+    if MOST_DURATIONS < durations.len() {
+        return Put::Refused(refusal::at(Reason::WrongSize, 0));
+    }
+    if MOST_VERSION < version {
+        return Put::Refused(refusal::at(Reason::WrongTapVersion, 0));
+    }
+    match measure_data(version, durations) {
+        Put::Refused(r) => Put::Refused(r),
+        Put::Count(n) => write_data(version, durations, n, out),
+    }
+}
+
+// ---- Reading
+
+// What the 20 bytes in front come to.
+enum Header {
+    Version(u8),
+    Refused(Refusal),
+}
+
+fn read_header(file: &[u8]) -> Header
+    ensures { λ r. ⌜ versionAnswer r ≡ tapVersion (now (file .entry)) ⌝ }
+{
+    if wrong_letters(file) {
+        return Header::Refused(refusal::at(Reason::WrongTapHeader, 0));
+    }
+    let version = file[VERSION_AT];
+    if MOST_VERSION < version {
+        return Header::Refused(refusal::at(Reason::WrongTapVersion, 0));
+    }
+    if wrong_count(file) {
+        return Header::Refused(refusal::at(Reason::WrongTapHeader, 0));
+    }
+    Header::Version(version)
+}
+
+// Whether there are fewer than 20 bytes, or other letters in front.
+fn wrong_letters(file: &[u8]) -> bool
+    ensures { λ r. ⌜ r ≡ wrongLetters (now (file .entry)) ⌝ }
+{
+    if file.len() < HEADER_BYTES {
+        return true;
+    }
+    !check::same(&file[..LETTER_BYTES], b"C64-TAPE-RAW")
+}
+
+// Whether a reserved byte is not zero, or the number of data bytes is wrong.
+fn wrong_count(file: &[u8]) -> bool
+    requires { ⌜ 20 ≤ length (now file) ⌝ }
+    ensures { λ r. ⌜ r ≡ wrongCount (now (file .entry)) ⌝ }
+{
+    if !check::same(&file[RESERVED_AT..COUNT_AT], &[0u8; 3]) {
+        return true;
+    }
+    let low = three_bytes(file, COUNT_AT) as usize;
+    let high = wide(file[COUNT_AT + 3]) as usize;
+    low + high * LONG_COUNTS != file.len() - HEADER_BYTES
+}
+
+// The number that three bytes make.
+fn three_bytes(bytes: &[u8], at: usize) -> u32
+    requires { ⌜ at + 3 ≤ length (now bytes) ⌝ }
+    ensures number { λ r. ⌜ r ≡ fromLow (part (now (bytes .entry)) at 3) ⌝ }
+    ensures small { λ r. ⌜ r < 16777216 ⌝ }
+{
+    wide(bytes[at]) + 256 * (wide(bytes[at + 1]) + 256 * wide(bytes[at + 2]))
+}
+
+fn wide(b: u8) -> u32
+    ensures { λ r. ⌜ r ≡ b ⌝ }
+    ensures { λ r. ⌜ r < 256 ⌝ }
+{
+    b as u32
+}
+
+// Reads the data of a file whose header is sound.
+fn read_data(version: u8, bytes: &[u8], out: &mut [u32]) -> TapAnswer
+    ensures { λ r. ⌜ Reads (readIn (length (now (out .entry))) version (now (bytes .entry))) (now (out .entry)) r (now (out .exit)) ⌝ }
+{
+    match count_durations(version, bytes) {
+        Put::Refused(r) => TapAnswer::Refused(r),
+        Put::Count(count) => {
+            if out.len() < count {
+                return TapAnswer::Refused(refusal::at(Reason::NoRoom, 0));
+            }
+            put_durations(version, bytes, out);
+            TapAnswer::Accepted(Tape { version, count })
+        }
+    }
+}
+
+// How many durations the data hold.
+fn count_durations(version: u8, bytes: &[u8]) -> Put
+    ensures { λ r. ⌜ putAnswer r ≡ mapped length (durationsIn version 0 (now (bytes .entry))) ⌝ }
+{
+    let mut i: usize = 0;
+    let mut count: usize = 0;
+    while i < bytes.len() {
+        let width = form_width(version, bytes[i]);
+        if bytes.len() - i < width {
+            return Put::Refused(refusal::at(Reason::CutLongForm, i));
+        }
+        i = i + width;
+        count = count + 1;
+    }
+    Put::Count(count)
+}
+
+fn put_durations(version: u8, bytes: &[u8], out: &mut [u32])
+    requires sound { ⌜ durationsIn version 0 (now bytes) ≡ accepted (puts (durationsIn version 0 (now bytes))) ⌝ }
+    requires room { ⌜ length (puts (durationsIn version 0 (now bytes))) ≤ length (now out) ⌝ }
+    ensures { λ _. ⌜ now (out .exit) ≡ sets (now (out .entry)) 0 (puts (durationsIn version 0 (now (bytes .entry)))) ⌝ }
+{
+    let mut i: usize = 0;
+    let mut k: usize = 0;
+    while i < bytes.len() {
+        out[k] = duration_at(version, bytes, i);
+        i = i + form_width(version, bytes[i]);
+        k = k + 1;
+    }
+}
+
+// How many bytes the form has that begins with this byte.
+fn form_width(version: u8, first: u8) -> usize
+    ensures { λ r. ⌜ r ≡ formWidth version first ⌝ }
+{
+    if first != 0 {
+        return 1;
+    }
+    if version == 0 {
+        return 1;
+    }
+    LONG_BYTES
+}
+
+// The duration whose form begins at a place.
+fn duration_at(version: u8, bytes: &[u8], i: usize) -> u32
+    requires { ⌜ i + formWidth version (getD (now bytes) i 0) ≤ length (now bytes) ⌝ }
+    ensures { λ r. ⌜ r ≡ durationAt version (now (bytes .entry)) i ⌝ }
+{
+    let first = bytes[i];
+    if first != 0 {
+        return byte_cycles(first);
+    }
+    if version == 0 {
+        return ZERO_CYCLES;
+    }
+    three_bytes(bytes, i + 1) * long_unit()
+}
+
+// ---- Units
+
+// The cycles of as many units as one byte counts.
+fn byte_cycles(units: u8) -> u32
+    ensures { λ r. ⌜ r ≡ units * unitCycles ⌝ }
+{
+    let InCycles::Fits(c) = pulse::cycles_of(Units(units as u32)) else {
+        return 0;
+    };
+    c.0
+}
+
+// The units of a duration that one byte counts; 0 where it has no such form.
+fn byte_units(duration: u32) -> u8
+    ensures { λ r. ⌜ r ≡ byteUnits duration ⌝ }
+{
+    let InUnits::Whole(u) = pulse::units_of(Cycles(duration)) else {
+        return 0;
+    };
+    let units = u.0;
+    if units <= MOST_BYTE_UNITS {
+        units as u8
+    } else {
+        0
+    }
+}
+
+// The cycles to one count of the long form: those of one unit.
+fn long_unit() -> u32
+    ensures { λ r. ⌜ r ≡ longUnit ⌝ }
+{
+    byte_cycles(1)
+}
+
+// ---- Writing
+
+// How a duration is written.
+enum Form {
+    Byte(u8),
+    Long(u32),
+    Missing,
+}
+
+fn form_of(version: u8, duration: u32) -> Form
+    ensures { λ r. ⌜ formBytes r ≡ formOf version duration ⌝ }
+{
+    let units = byte_units(duration);
+    if units != 0 {
+        return Form::Byte(units);
+    }
+    if version != 0 {
+        return long_form(duration);
+    }
+    if duration == ZERO_CYCLES {
+        return Form::Byte(0);
+    }
+    Form::Missing
+}
+
+fn long_form(duration: u32) -> Form
+    ensures { λ r. ⌜ formBytes r ≡ longForm duration ⌝ }
+{
+    let unit = long_unit();
+    if duration % unit != 0 {
+        return Form::Missing;
+    }
+    let count = duration / unit;
+    if (count as usize) < LONG_COUNTS {
+        return Form::Long(count);
+    }
+    Form::Missing
+}
+
+// How many bytes a form has.
+fn form_bytes(form: Form) -> usize
+    ensures { λ r. ⌜ r ≡ length (formBytes form) ⌝ }
+{
+    match form {
+        Form::Byte(_) => 1,
+        Form::Long(_) => LONG_BYTES,
+        Form::Missing => 0,
+    }
+}
+
+// How many data bytes the durations take, or the first that has no form.
+fn measure_data(version: u8, durations: &[u32]) -> Put
+    requires { ⌜ length (now durations) ≤ 1048576 ⌝ }
+    ensures { λ r. ⌜ putAnswer r ≡ mapped length (measured version (now (durations .entry))) ⌝ }
+{
+    let mut i: usize = 0;
+    let mut n: usize = 0;
+    while i < durations.len() {
+        let width = form_bytes(form_of(version, durations[i]));
+        if width == 0 {
+            return Put::Refused(refusal::at(Reason::NoTapForm, i));
+        }
+        n = n + width;
+        i = i + 1;
+    }
+    Put::Count(n)
+}
+
+// Writes a file of n data bytes.
+fn write_data(version: u8, durations: &[u32], n: usize, out: &mut [u8]) -> Put
+    requires { ⌜ n ≡ length (tapData version (now durations)) ⌝ }
+    requires { ⌜ n ≤ 4194304 ⌝ }
+    ensures { λ r. ⌜ Written (placed (length (now (out .entry))) version (tapData version (now (durations .entry)))) (now (out .entry)) r (now (out .exit)) ⌝ }
+{
+    let count = HEADER_BYTES + n;
+    if out.len() < count {
+        return Put::Refused(refusal::at(Reason::NoRoom, 0));
+    }
+    lists::put_bytes(&tap_header(version, n), out, 0);
+    put_data(version, durations, out);
+    Put::Count(count)
+}
+
+fn tap_header(version: u8, n: usize) -> [u8; HEADER_BYTES]
+    ensures { λ r. ⌜ r ≡ tapHeader version n ⌝ }
+{
+    let mut header = *b"C64-TAPE-RAW\0\0\0\0\0\0\0\0";
+    header[VERSION_AT] = version;
+    header[COUNT_AT] = low_byte(n);
+    header[COUNT_AT + 1] = low_byte(n / BYTE_VALUES);
+    header[COUNT_AT + 2] = low_byte(n / BYTE_VALUES / BYTE_VALUES);
+    header[COUNT_AT + 3] = low_byte(n / BYTE_VALUES / BYTE_VALUES / BYTE_VALUES);
+    header
+}
+
+// Puts the forms of the durations after the header.
+fn put_data(version: u8, durations: &[u32], out: &mut [u8])
+    requires { ⌜ 20 + length (tapData version (now durations)) ≤ length (now out) ⌝ }
+    ensures { λ _. ⌜ now (out .exit) ≡ sets (now (out .entry)) 20 (tapData version (now (durations .entry))) ⌝ }
+{
+    let mut i: usize = 0;
+    let mut at = HEADER_BYTES;
+    while i < durations.len() {
+        let form = form_of(version, durations[i]);
+        put_form(form, out, at);
+        at = at + form_bytes(form);
+        i = i + 1;
+    }
+}
+
+fn put_form(form: Form, out: &mut [u8], at: usize)
+    requires { ⌜ at + length (formBytes form) ≤ length (now out) ⌝ }
+    ensures { λ _. ⌜ now (out .exit) ≡ sets (now (out .entry)) at (formBytes form) ⌝ }
+{
+    match form {
+        Form::Byte(b) => out[at] = b,
+        Form::Long(count) => put_long(count, out, at),
+        Form::Missing => {}
+    }
+}
+
+fn put_long(count: u32, out: &mut [u8], at: usize)
+    requires { ⌜ at + 4 ≤ length (now out) ⌝ }
+    ensures { λ _. ⌜ now (out .exit) ≡ sets (now (out .entry)) at (0 ∷ lowFirst 3 count) ⌝ }
+{
+    let n = count as usize;
+    out[at] = 0;
+    out[at + 1] = low_byte(n);
+    out[at + 2] = low_byte(n / BYTE_VALUES);
+    out[at + 3] = low_byte(n / BYTE_VALUES / BYTE_VALUES);
+}
+
+fn low_byte(n: usize) -> u8
+    ensures { λ r. ⌜ r ≡ n % 256 ⌝ }
+{
+    (n % BYTE_VALUES) as u8
+}
