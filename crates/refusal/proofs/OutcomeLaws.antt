@@ -35,6 +35,12 @@ pub first-accepted : {A : Type 0} (reason : Reason) (found : Option ℕ) (later 
 first-accepted reason none later given e = e
 first-accepted reason (some place) later given e = absurd (let z : _≡_ {A = ℕ} 0 1 = cc in omega arith)
 
+-- then no place was found
+pub first-found : {A : Type 0} (reason : Reason) (found : Option ℕ) (later : Outcome A) (given : A) → refuseFirst reason found later ≡ accepted given
+    → found ≡ none
+first-found reason none later given e = refl
+first-found reason (some place) later given e = absurd (let z : _≡_ {A = ℕ} 0 1 = cc in omega arith)
+
 pub then-accepted : {A B : Type 0} (o : Outcome A) (next : A → Outcome B) (given : B) → andThen o next ≡ accepted given
     → (x : A) × (o ≡ accepted x) × (next x ≡ accepted given)
 then-accepted (refused number block place) next given e = absurd (let z : _≡_ {A = ℕ} 0 1 = cc in omega arith)

@@ -5,7 +5,7 @@ use native.Mathlib.Numerals.{add-one}
 use native.Mathlib.Omega.{arith}
 use mathlib.Core.Path.{_≡_, refl, sym, ap, _∙_}
 use mathlib.Core.Logic.{_⊎_, inl, inr}
-use mathlib.Core.Bool.{Bool, true, false, cond, _&&_}
+use mathlib.Core.Bool.{Bool, true, false, cond, not, _&&_}
 use mathlib.Core.List.{List, [], _∷_, _++_}
 use borrow.Author.Tests.{eq-eqb, ne-eqb, le-leb, lt-leb, lt-ltb, le-ltb}
 use lib.Dec.{eqb, leb, ltb}
@@ -14,7 +14,7 @@ use lib.Seq.{drop-cons}
 use Rattle.lists.specs.Text.{lowFirst, fromLow}
 use Rattle.lists.proofs.TextLaws.{length-low, from-low}
 use Rattle.pulse.specs.Units.{unitCycles}
-use Rattle.tap.specs.Tap.{longUnit, longForm, formOf, tapData}
+use Rattle.tap.specs.Tap.{longUnit, longForm, formOf, tapData, hasNoForm}
 use Rattle.tap.specs.Forms.{byteUnits}
 
 -- ---- One byte
@@ -33,6 +33,12 @@ module _ (d : ℕ) where
     unfolding byteUnits
     units-many h = rw (eq-eqb (d % unitCycles) 0 whole, lt-leb (d / unitCycles) 255 h)
 
+  units-small : byteUnits d ≤ 255
+  units-small = elim (ℕ-discrete (d % unitCycles) 0) [
+    | yes m ↦ elim (decLe (d / unitCycles) 255) [ yes h ↦ rw (units-few m h) h | no h ↦ rw (units-many m (omega arith)) (omega arith) ]
+    | no m ↦ rw (units-none m) (omega arith)
+  ]
+
   -- what is written where there is no one-byte form
   abbrev pub otherForm : (version : ℕ) → List ℕ
   otherForm v = cond (eqb v 0) (cond (eqb d 2048) (0 ∷ []) []) (longForm d)
@@ -49,6 +55,16 @@ module _ (d : ℕ) where
           let e = units-few m h in
           let p : d / unitCycles ≡ 0 → ⊥ = λ z. n (e ∙ z) in
           one-byte v m (omega arith) (omega arith) ∙ ap (λ u. u ∷ []) (sym e)
+      | no h ↦ absurd (n (units-many m (omega arith)))
+    ]
+    | no m ↦ absurd (n (units-none m))
+  ]
+
+  -- they are the duration's
+  pub units-back : (byteUnits d ≡ 0 → ⊥) → byteUnits d * unitCycles ≡ d
+  units-back n = elim (ℕ-discrete (d % unitCycles) 0) [
+    | yes m ↦ elim (decLe (d / unitCycles) 255) [
+      | yes h ↦ rw (units-few m h) (omega arith)
       | no h ↦ absurd (n (units-many m (omega arith)))
     ]
     | no m ↦ absurd (n (units-none m))
@@ -131,3 +147,37 @@ pub width-data : (v : ℕ) (ds : List ℕ) → length (tapData v ds) ≤ 4 * len
 unfolding tapData
 width-data v [] = omega arith
 width-data v (d ∷ ds) = rw length-append (omega (arith, width-form v d, width-data v ds))
+
+-- ---- Which durations have a form
+
+-- version 0 writes the multiples of 8 from 8 to 2,048
+pub without-zero : (d : ℕ) → hasNoForm 0 d ≡ not (eqb (d % 8) 0 && leb 8 d && leb d 2048)
+without-zero d = elim (ℕ-discrete (d % 8) 0) [
+  | no m ↦ rw (form-missing d 0 (units-none d m) refl (λ e. m (rw e)), ne-eqb (d % 8) 0 m)
+  | yes m ↦ elim (decLe 8 d) [
+    | no a ↦ rw (form-missing d 0 (units-few d m (omega arith) ∙ (let z : d / 8 ≡ 0 = omega arith in z)) refl (λ e. omega arith), eq-eqb (d % 8) 0 m, lt-leb 8 d (omega arith))
+    | yes a ↦ elim (decLe d 2040) [
+      | yes b ↦ rw (one-byte d 0 m a b, eq-eqb (d % 8) 0 m, le-leb 8 d a, le-leb d 2048 (omega arith))
+      | no b ↦ elim (ℕ-discrete d 2048) [
+        | yes e ↦ rw (form-zero d 0 (units-many d m (omega arith)) refl e, eq-eqb (d % 8) 0 m, le-leb 8 d a, le-leb d 2048 (omega arith))
+        | no e ↦ rw (form-missing d 0 (units-many d m (omega arith)) refl e, eq-eqb (d % 8) 0 m, le-leb 8 d a, lt-leb d 2048 (omega arith))
+      ]
+    ]
+  ]
+]
+
+-- version 1 writes 0 and the multiples of 8 up to 134,217,720
+pub without-one : (d : ℕ) → hasNoForm 1 d ≡ not (eqb (d % 8) 0 && leb d 134217720)
+without-one d = elim (ℕ-discrete (byteUnits d) 0) [
+  | no n ↦
+      let e = units-back d n in
+      let h = units-small d in
+      rw (form-units d 1 n, eq-eqb (d % 8) 0 (omega arith), le-leb d 134217720 (omega arith))
+  | yes z ↦ elim (ℕ-discrete (d % 8) 0) [
+    | no m ↦ rw (form-long d 1 z (λ e. omega arith), long-between d m, ne-eqb (d % 8) 0 m)
+    | yes m ↦ elim (decLe d 134217720) [
+      | yes h ↦ rw (form-long d 1 z (λ e. omega arith), long-fits d m (omega arith), length-low, eq-eqb (d % 8) 0 m, le-leb d 134217720 h)
+      | no h ↦ rw (form-long d 1 z (λ e. omega arith), long-over d m (omega arith), eq-eqb (d % 8) 0 m, lt-leb d 134217720 (omega arith))
+    ]
+  ]
+]

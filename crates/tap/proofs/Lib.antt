@@ -4,3 +4,4 @@ mod Decoding
 mod Heading
 pub mod DataLaws
 pub mod FormLaws
+pub mod RoundTrip
