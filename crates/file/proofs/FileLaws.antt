@@ -1,7 +1,7 @@
 -- Laws of program files: what the writer accepts, how long it is, and that every strip within its damage is read as that file.
 use Prim.Native.Nat.{ℕ, _+_, _*_, _≤_, _<_}
 use native.Mathlib.Omega.{arith}
-use mathlib.Core.Path.{_≡_, sym, ap, _∙_}
+use mathlib.Core.Path.{_≡_, refl, sym, ap, _∙_}
 use mathlib.Core.Logic.{_⊎_, inl, inr}
 use mathlib.Core.Bool.{false, not, _||_}
 use mathlib.Core.List.{List}
@@ -13,19 +13,21 @@ use Rattle.lists.proofs.BoolLaws.{or-false, or-true}
 use Rattle.lists.proofs.PartLaws.{part-part}
 use Rattle.refusal.specs.declared.Reason.the-variants.{WrongSize, NoRoom, WrongType, WrongAddresses, WrongLeader}
 use Rattle.refusal.specs.Refusal.{accepted, refusalAt, refusalIn, mapped, inBlock}
-use Rattle.refusal.proofs.OutcomeLaws.{accepted-next}
+use Rattle.refusal.proofs.OutcomeLaws.{accepted-next, then-accepted, block-accepted, mapped-accepted}
+use Rattle.pulse.specs.declared.Class.{Class}
 use Rattle.pulse.specs.declared.Class.the-variants.{Short}
 use Rattle.pulse.specs.Pulse.{fixed, classOf, classes}
 use Rattle.block.specs.Block.{wrongLeader}
 use Rattle.block.specs.Reading.{endOf, blockAt, readFrom}
 use Rattle.block.specs.Damage.{Damaged}
 use Rattle.block.proofs.BlockLaws.{Within, leader-right, right-leader, length-blockPulses}
+use Rattle.block.proofs.ReadingLaws.{length-payload}
 use Rattle.block.proofs.DamageLaws.{after-short, read-damaged}
 use Rattle.header.specs.declared.Fields.{Fields}
 use Rattle.header.specs.Header.{wrongName, fieldsOf}
 use Rattle.header.proofs.HeaderLaws.{length-header, fields-header, below-header}
 use Rattle.file.specs.File.{File, fileHeader, headerPulses, dataPulses, filePulses, notProgram, wrongAddresses, dataBytes, writeBlocks, writeFile}
-use Rattle.file.specs.Reading.{BlockReader, fileRead, readData, readFileBy, readFile}
+use Rattle.file.specs.Reading.{BlockReader, FileRead, fileRead, readData, readFileBy, readFile}
 use Rattle.file.specs.Damage.{FileDamaged}
 use Rattle.file.specs.Claim.{Typed}
 
@@ -168,3 +170,29 @@ module _ (f : File) (typed : Typed f) (right : Right f) (strip : List ℕ) (o : 
   pub file-read : (headerRoom dataRoom : ℕ) → 192 ≤ headerRoom → n ≤ dataRoom
       → readFile (classes fixed strip) headerRoom dataRoom from ≡ accepted (fileRead (fileHeader f) (blockAt (o₁ + k₁) n (f .bytes)))
   file-read headerRoom dataRoom h b = file-by f right (readFrom (classes fixed strip)) headerRoom dataRoom from (o + k₀) (o₁ + k₁) h b header-read data-read
+
+-- ---- What the reader accepts
+
+-- the header of an accepted file has 192 bytes, and its data end minus start
+pub record Whole (f : FileRead) : Type 0 where
+  pub header : length (f .header) ≡ 192
+  pub fields : f .loaded .fields ≡ fieldsOf (f .header)
+  pub kind : (f .loaded .fields .kind ≡ 1) ⊎ (f .loaded .fields .kind ≡ 3)
+  pub bytes : length (f .bytes) ≡ dataBytes (f .loaded .fields)
+
+module _ (cs : List Class) (headerRoom dataRoom : ℕ) (f : FileRead) where
+  data-whole : (end : ℕ) (header : List ℕ) → length header ≡ 192 → readData (readFrom cs) headerRoom dataRoom end header ≡ accepted f → Whole f
+  unfolding readData
+  data-whole end header l e =
+      let k = accepted-next (notProgram (fieldsOf header .kind)) (refusalAt WrongType 0) _ f e in
+      let a = accepted-next (wrongAddresses (fieldsOf header)) (refusalAt WrongAddresses 0) _ f (k .1) in
+      let r = accepted-next (ltb headerRoom 192 || ltb dataRoom (dataBytes (fieldsOf header))) (refusalAt NoRoom 0) _ f (a .1) in
+      let m = mapped-accepted (fileRead header) (inBlock 1 (readFrom cs end (dataBytes (fieldsOf header)))) (sym (r .1)) in
+      let n = length-payload cs (dataBytes (fieldsOf header)) (m .0) end (block-accepted 1 _ (m .0) (m .1)) in
+      rw (← (m .2)) (record { header = l; fields = refl; kind = kind-right (fieldsOf header .kind) (k .0); bytes = n })
+
+  pub file-whole : (from : ℕ) → readFile cs headerRoom dataRoom from ≡ accepted f → Whole f
+  unfolding readFileBy
+  file-whole from e =
+      let t = then-accepted (readFrom cs from 192) (λ h. readData (readFrom cs) headerRoom dataRoom (h .extent .end) (h .payload)) f e in
+      data-whole (t .0 .extent .end) (t .0 .payload) (length-payload cs 192 (t .0) from (t .1)) (t .2)

@@ -117,7 +117,7 @@ fn wrong_addresses(fields: Fields) -> bool
 }
 
 // How many bytes the data block has; none where the end is not above the start.
-fn data_bytes(fields: Fields) -> usize
+pub fn data_bytes(fields: Fields) -> usize
     ensures { λ r. ⌜ r ≡ dataBytes fields ⌝ }
 {
     let start = fields.start as usize;

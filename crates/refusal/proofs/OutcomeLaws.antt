@@ -12,7 +12,7 @@ use Rattle.lists.proofs.BoolLaws.{cond-second}
 use Rattle.refusal.specs.declared.Reason.{Reason}
 use Rattle.refusal.specs.declared.Refusal.{Refusal}
 use Rattle.refusal.specs.declared.Put.the-variants.{Count, Refused}
-use Rattle.refusal.specs.Refusal.{Outcome, refused, accepted, refuseFirst, told, mapped, andThen, puts, Written}
+use Rattle.refusal.specs.Refusal.{Outcome, refused, accepted, refuseFirst, told, mapped, inBlock, andThen, puts, Written}
 
 module _ {A : Type 0} {o : Outcome A} (s : Refusal) (e : o ≡ told s) where
   pub mapped-refused : {B : Type 0} (f : A → B) → mapped f o ≡ told s
@@ -45,6 +45,10 @@ pub then-accepted : {A B : Type 0} (o : Outcome A) (next : A → Outcome B) (giv
     → (x : A) × (o ≡ accepted x) × (next x ≡ accepted given)
 then-accepted (refused number block place) next given e = absurd (let z : _≡_ {A = ℕ} 0 1 = cc in omega arith)
 then-accepted (accepted x) next given e = (x, refl, e)
+
+pub block-accepted : {A : Type 0} (block : ℕ) (o : Outcome A) (given : A) → inBlock block o ≡ accepted given → o ≡ accepted given
+block-accepted block (refused number other place) given e = absurd (let z : _≡_ {A = ℕ} 0 1 = cc in omega arith)
+block-accepted block (accepted x) given e = e
 
 -- an outcome gives one thing
 pub accepted-once : {A : Type 0} {o : Outcome A} {x y : A} → o ≡ accepted x → o ≡ accepted y → x ≡ y

@@ -128,7 +128,7 @@ module _ (v : ℕ) (ds : List ℕ) (few : length ds ≤ 1048576) (old : v ≤ 1)
   file-back =
       let w = width-data v ds in
       let n : (i : ℕ) → i < length ds → length (formOf v (getD ds i 0)) ≡ 0 → ⊥ =
-          λ i h. eqb-false (length (formOf v (getD ds i 0))) 0 (none-first (λ j. hasNoForm v (getD ds j 0)) (length ds) 0 has i (omega arith) (omega arith)) in
+      λ i h. eqb-false (length (formOf v (getD ds i 0))) 0 (none-first (λ j. hasNoForm v (getD ds j 0)) (length ds) 0 has i (omega arith) (omega arith)) in
       rw (header-back v (tapData v ds) (omega arith) old, data-back v (tapData v ds), forms-back v 0 ds n)
 
   pub read-back : (room : ℕ) → length ds ≤ room → readTap room (tapFile v (tapData v ds)) ≡ accepted (tapWith v ds)
@@ -193,9 +193,9 @@ written-front file bytes count file′ l h e = rw (e, ← l) (part-put file 0 by
 pub round-trip : RoundTrip
 round-trip = record {
   returned = λ v ds file count file′ w out h r out′ s.
-    let m = mapped-accepted length (writeTap (length file) v ds) (w .0) in
-    let t = accepted-sent (length file) v ds (m .0) (m .1) in
-    let p : file′ ≡ putAt file 0 (m .0) = w .1 ∙ ap (λ o. putAt file 0 (puts o)) (m .1) in
-    let b : take count file′ ≡ m .0 = written-front file (m .0) count file′ (m .2) (t .fits) p in
-    returned v ds (m .0) out h r out′ (readTap (length out) (take count file′)) (rw (b, t .file) (read-back v ds (t .few) (t .old) (t .has) (length out) h)) s;
+      let m = mapped-accepted length (writeTap (length file) v ds) (w .0) in
+      let t = accepted-sent (length file) v ds (m .0) (m .1) in
+      let p : file′ ≡ putAt file 0 (m .0) = w .1 ∙ ap (λ o. putAt file 0 (puts o)) (m .1) in
+      let b : take count file′ ≡ m .0 = written-front file (m .0) count file′ (m .2) (t .fits) p in
+      returned v ds (m .0) out h r out′ (readTap (length out) (take count file′)) (rw (b, t .file) (read-back v ds (t .few) (t .old) (t .has) (length out) h)) s;
 }
