@@ -8,12 +8,13 @@ use mathlib.Core.Bool.{Bool, true, false, cond}
 use mathlib.Core.List.{List, _++_}
 use borrow.Author.Tests.{eqb-true, eqb-false}
 use lib.Dec.{eqb, lit<}
-use lib.ListN.{length, getD, replicate, length-append, length-replicate, getD-replicate, List·getD-append, List·getD-eq-default}
+use lib.ListN.{length, getD, replicate, length-take, length-append, length-replicate, getD-replicate, List·getD-append, List·getD-eq-default}
 use lib.Seq.{ext-getD, getD-append-add, take-all}
 use Rattle.lists.specs.Places.{part, Below}
 use Rattle.lists.proofs.PlaceLaws.{length-tabulate, getD-tabulate, getD-within}
+use Rattle.refusal.specs.Refusal.{Outcome, refused, accepted, mapped, puts}
 use Rattle.header.specs.declared.Fields.{Fields}
-use Rattle.header.specs.Header.{filled, headerBytes, fieldsOf, shownCount}
+use Rattle.header.specs.Header.{filled, headerBytes, fieldsOf, unpackHeader, shownCount, shownName}
 
 -- ---- filled
 
@@ -104,3 +105,12 @@ shown-count h (suc n) = go (eqb (getD h (5 + n) 0) 0x20) refl (shown-count h n)
       last = λ z q. eqb-false (getD h (5 + n) 0) 0x20 e (ap (λ i. getD h i 0) (let z : 5 + n ≡ 4 + suc n = omega arith in z) ∙ q);
       spaces = λ i a b. absurd (omega arith);
     }
+
+-- at most sixteen bytes are shown
+pub width-shown : (header : List ℕ) → length (shownName header) ≤ 16
+unfolding shownName
+width-shown h = go (unpackHeader h)
+  where
+    go : (o : Outcome Fields) → length (puts (mapped (λ _. part h 5 (shownCount h 16)) o)) ≤ 16
+    go (refused number block place) = omega arith
+    go (accepted fields) = rw length-take (omega (arith, shown-count h 16 .high))

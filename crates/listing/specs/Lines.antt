@@ -10,17 +10,17 @@ use Rattle.header.specs.Header.{shownName}
 use Rattle.file.specs.declared.FileAnswer.{FileAnswer}
 use Rattle.file.specs.declared.FileAnswer.the-variants.{Accepted, Refused}
 use Rattle.file.specs.File.{dataBytes}
-use Rattle.listing.specs.Listing.{decimal, hexadecimal, space, newline, printed, refusalLine, heading}
+use Rattle.listing.specs.Listing.{decimal, hexadecimal, field, newline, printed, refusalLine, heading}
 
 -- a text is put from `at` on, and r is the place after it
-abbrev pub Appended : (out : List ℕ) (at : ℕ) (text : List ℕ) (r : ℕ) (out′ : List ℕ) → Type 0
-Appended out at text r out′ = (out′ ≡ sets out at text) × (r ≡ at + length text)
+pub record Appended (out : List ℕ) (at : ℕ) (text : List ℕ) (r : ℕ) (out′ : List ℕ) : Type 0 where
+  pub put : out′ ≡ sets out at text
+  pub stop : r ≡ at + length text
 
 -- the line of a file, by its fields and its shown name
 unfoldable pub fieldsLine : (fields : Fields) (name : List ℕ) → List ℕ
 fieldsLine f name =
-    decimal (f .kind) ++ space ++ hexadecimal (f .start) ++ space ++ hexadecimal (f .end) ++ space ++ decimal (dataBytes f) ++ space ++ map printed name
-    ++ newline
+    field (decimal (f .kind)) ++ field (hexadecimal (f .start)) ++ field (hexadecimal (f .end)) ++ field (decimal (dataBytes f)) ++ map printed name ++ newline
 
 abbrev pub answerLine : FileAnswer → (header : List ℕ) → List ℕ
 answerLine (Accepted l) header = fieldsLine (l .fields) (shownName header)

@@ -33,9 +33,9 @@ hexadecimal n = digit (n / 4096) ∷ digit (n / 256 % 16) ∷ digit (n / 16 % 16
 
 -- ---- Lines
 
--- single spaces
-abbrev pub space : List ℕ
-space = 0x20 ∷ []
+-- a field and the space after it
+abbrev pub field : List ℕ → List ℕ
+field text = text ++ 0x20 ∷ []
 
 abbrev pub newline : List ℕ
 newline = 0x0a ∷ []
@@ -47,11 +47,11 @@ printed b = cond (ltb b 0x20 || ltb 0x7e b) 0x2e b
 -- type, start, end, number of bytes, shown name
 unfoldable pub fileLine : FileRead → List ℕ
 fileLine f =
-    decimal (f .loaded .fields .kind) ++ space ++ hexadecimal (f .loaded .fields .start) ++ space ++ hexadecimal (f .loaded .fields .end)
-    ++ space ++ decimal (length (f .bytes)) ++ space ++ map printed (shownName (f .header)) ++ newline
+    field (decimal (f .loaded .fields .kind)) ++ field (hexadecimal (f .loaded .fields .start)) ++ field (hexadecimal (f .loaded .fields .end))
+    ++ field (decimal (length (f .bytes))) ++ map printed (shownName (f .header)) ++ newline
 
 unfoldable pub refusalLine : (number block place : ℕ) → List ℕ
-refusalLine number block place = ascii "refused" ++ space ++ decimal number ++ space ++ decimal block ++ space ++ decimal place ++ newline
+refusalLine number block place = field (ascii "refused") ++ field (decimal number) ++ field (decimal block) ++ (decimal place ++ newline)
 
 abbrev pub line : Outcome FileRead → List ℕ
 line (refused number block place) = refusalLine number block place

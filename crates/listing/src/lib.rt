@@ -19,7 +19,7 @@ ghost use lib.Seq.{sets};
 ghost use Rattle.lists.specs.Buffer.{putAt};
 ghost use Rattle.refusal.specs.Refusal.{numberOf, mapped, puts, Written};
 ghost use Rattle.file.specs.Reading.{loadedOf, headerOf, fileAnswer};
-ghost use Rattle.listing.specs.Listing.{digit, digits, decimal, hexadecimal, printed, refusalLine, fileIn, listTape};
+ghost use Rattle.listing.specs.Listing.{digit, digits, decimal, hexadecimal, field, printed, refusalLine, fileIn, listTape};
 ghost use Rattle.listing.specs.Lines.{Appended, fieldsLine, answerText};
 
 // The longest input that is listed: 16 KiB.
@@ -152,7 +152,7 @@ fn put_digits(most: usize, n: u64, out: &mut [u8], at: usize) -> usize
 // An address and a space after it.
 fn put_address(address: u16, out: &mut [u8], at: usize) -> usize
     requires { ⌜ at + 5 ≤ length (now out) ⌝ }
-    ensures { λ r. ⌜ Appended (now (out .entry)) at (hexadecimal address ++ 0x20 ∷ []) r (now (out .exit)) ⌝ }
+    ensures { λ r. ⌜ Appended (now (out .entry)) at (field (hexadecimal address)) r (now (out .exit)) ⌝ }
 {
     let n = address as u64;
     out[at] = digit_of(n / 4096);

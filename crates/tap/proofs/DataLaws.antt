@@ -5,15 +5,16 @@ use native.Mathlib.Omega.{arith}
 use mathlib.Core.Path.{_≡_, refl, sym, ap, ap₂, _∙_}
 use mathlib.Core.Bool.{Bool, true, false, cond}
 use mathlib.Core.List.{List, [], _∷_, _++_}
-use borrow.Author.Tests.{eq-eqb, ne-eqb}
+use borrow.Author.Tests.{eq-eqb, ne-eqb, le-ltb}
 use lib.Dec.{eqb}
 use lib.ListN.{length, take, drop, getD, length-drop, drop-of-length-le}
 use lib.Seq.{drop-drop, drop-cons, getD-drop}
 use Rattle.lists.specs.Places.{part}
 use Rattle.lists.specs.Text.{fromLow}
 use Rattle.refusal.specs.declared.Reason.the-variants.{CutLongForm}
-use Rattle.refusal.specs.Refusal.{Outcome, refused, accepted, refuse, mapped}
-use Rattle.tap.specs.Reading.{durationsIn}
+use Rattle.refusal.specs.Refusal.{Outcome, refused, accepted, refuse, mapped, andThen}
+use Rattle.refusal.proofs.OutcomeLaws.{then-accepted, mapped-accepted}
+use Rattle.tap.specs.Reading.{tapVersion, durationsIn, Tap, tapWith, tapOf, fitting, readTap}
 use Rattle.pulse.specs.Units.{unitCycles}
 use Rattle.tap.specs.Tap.{longUnit}
 use Rattle.tap.specs.Forms.{isLong, formWidth, durationAt}
@@ -111,3 +112,46 @@ low-three bytes at h =
     let p : at + 1 ≡ suc at = omega arith in
     let q : at + 2 ≡ suc (suc at) = omega arith in
     rw (drop-cons bytes at 0 (omega arith), drop-cons bytes (suc at) 0 (omega arith), drop-cons bytes (suc (suc at)) 0 (omega arith), p, q) (omega arith)
+
+-- ---- How many durations there are
+
+mapped-width : (d : ℕ) (o : Outcome (List ℕ)) (n : ℕ) → ((ds : List ℕ) → o ≡ accepted ds → length ds ≤ n)
+    → (ds : List ℕ) → mapped (λ es. d ∷ es) o ≡ accepted ds → length ds ≤ suc n
+mapped-width d (refused number block place) n h ds e = absurd (let z : _≡_ {A = ℕ} 0 1 = cc in omega arith)
+mapped-width d (accepted es) n h ds e = let q : d ∷ es ≡ ds = cc in rw (← q) (omega (arith, h es refl))
+
+-- no more than bytes
+pub width-durations : (v at : ℕ) (bs ds : List ℕ) → durationsIn v at bs ≡ accepted ds → length ds ≤ length bs
+unfolding durationsIn
+width-durations v at [] ds e = let q : [] ≡ ds = cc in rw (← q) (omega arith)
+width-durations v at (suc b ∷ bs) ds e = mapped-width (suc b * unitCycles) (durationsIn v (at + 1) bs) (length bs) (width-durations v (at + 1) bs) ds e
+width-durations zero at (zero ∷ bs) ds e = mapped-width 2048 (durationsIn zero (at + 1) bs) (length bs) (width-durations zero (at + 1) bs) ds e
+width-durations (suc v) at (zero ∷ []) ds e = absurd (let z : _≡_ {A = ℕ} 0 1 = cc in omega arith)
+width-durations (suc v) at (zero ∷ a ∷ []) ds e = absurd (let z : _≡_ {A = ℕ} 0 1 = cc in omega arith)
+width-durations (suc v) at (zero ∷ a ∷ b ∷ []) ds e = absurd (let z : _≡_ {A = ℕ} 0 1 = cc in omega arith)
+width-durations (suc v) at (zero ∷ a ∷ b ∷ c ∷ bs) ds e =
+    let w = mapped-width (fromLow (a ∷ b ∷ c ∷ []) * longUnit) (durationsIn (suc v) (at + 4) bs) (length bs) (width-durations (suc v) (at + 4) bs) ds e in
+    omega arith
+
+room-fits : (room : ℕ) (t : Tap) → length (t .durations) ≤ room → fitting room t ≡ accepted t
+unfolding fitting
+room-fits room t h = rw (le-ltb room (length (t .durations)) h)
+
+module _ (file : List ℕ) where
+  width-tap : (t : Tap) → tapOf file ≡ accepted t → length (t .durations) ≤ length file - 20
+  unfolding tapOf
+  width-tap t e =
+      let h = then-accepted (tapVersion file) (λ v. mapped (tapWith v) (durationsIn v 0 (drop 20 file))) t e in
+      let m = mapped-accepted (tapWith (h .0)) (durationsIn (h .0) 0 (drop 20 file)) (sym (h .2)) in
+      let w = width-durations (h .0) 0 (drop 20 file) (m .0) (m .1) in
+      let l = length-drop 20 file in
+      rw (← (m .2)) (omega arith)
+
+  -- with room for a duration for each data byte, what is read is what the file holds
+  pub read-enough : (room : ℕ) → length file - 20 ≤ room → readTap room file ≡ tapOf file
+  unfolding readTap
+  read-enough room h = go (tapOf file) (width-tap)
+    where
+      go : (o : Outcome Tap) → ((t : Tap) → o ≡ accepted t → length (t .durations) ≤ length file - 20) → andThen o (fitting room) ≡ o
+      go (refused number block place) w = refl
+      go (accepted t) w = room-fits room t (omega (arith, w t refl))

@@ -1,0 +1,181 @@
+use denote.Ref.{now}
+use borrow.Author.Needs.{needs}
+use native.Mathlib.Omega.{arith}
+use Rattle.listing.proofs.LineLaws.{nothing-put, last-put, more-put, more-room, append-length}
+use Prim.Native.Nat.{ℕ, _<_}
+use borrow.Fn.Kinds.{In}
+use borrow.Fn.PlainCycle.{Measures, is, falls, and}
+use Rattle.listing.proofs.put_digits.Reads as put-digits
+use Rattle.listing.proofs.put_digits.Kinds as put-digits-kinds
+use Rattle.listing.proofs.+put_digits.Lts-put_digits as put-digits-lts
+use Rattle.listing.proofs.digit_of.Reads as digit-of-reads
+use Rattle.listing.proofs.+put_digits.{statement}
+use Rattle.listing.proofs.+put_digits.Tie.{close}
+
+abbrev μ-put-digits : Measures 1 put-digits-kinds.ps ℕ
+μ-put-digits κs a = a .0
+
+abbrev put-digits-at : ℕ → In 1 put-digits-kinds.ps
+put-digits-at t =
+    and 1 put-digits-kinds.ps (is 1 put-digits-kinds.ps μ-put-digits t) put-digits.Pre
+
+abbrev put-digits-below : ℕ → In 1 put-digits-kinds.ps
+put-digits-below t =
+    and 1 put-digits-kinds.ps (falls 1 put-digits-kinds.ps _<_ μ-put-digits t) put-digits.Pre
+
+-- src/lib.rt:141:9
+put-digits-returns : (t : ℕ) → put-digits-lts.Need-returns (
+  digit-of-reads.Asked,
+  digit-of-reads.Learnt,
+  put-digits-below t,
+  put-digits.Post,
+) (put-digits-at t) put-digits.Post
+put-digits-returns t c = let a = c .before .before .args in nothing-put (now (a .out)) (a .at) (a .n) (c .if1 .taken)
+
+-- src/lib.rt:144:19
+put-digits-digit-of-requires : (t : ℕ) → put-digits-lts.Need-digit-of-requires (
+  digit-of-reads.Asked,
+  digit-of-reads.Learnt,
+  put-digits-below t,
+  put-digits.Post,
+) (put-digits-at t) put-digits.Post
+put-digits-digit-of-requires t c κs = omega arith
+
+-- src/lib.rt:144:9
+put-digits-slice-write-out : (t : ℕ) → put-digits-lts.Need-slice-write-out (
+  digit-of-reads.Asked,
+  digit-of-reads.Learnt,
+  put-digits-below t,
+  put-digits.Post,
+) (put-digits-at t) put-digits.Post
+put-digits-slice-write-out t c = let n = c .before .before .if1 .left in omega arith
+
+-- src/lib.rt:145:16
+put-digits-add-result : (t : ℕ) → put-digits-lts.Need-add-result (
+  digit-of-reads.Asked,
+  digit-of-reads.Learnt,
+  put-digits-below t,
+  put-digits.Post,
+) (put-digits-at t) put-digits.Post
+put-digits-add-result t c = search needs
+
+-- src/lib.rt:145:9
+put-digits-same-length : (t : ℕ) → put-digits-lts.Need-same-length (
+  digit-of-reads.Asked,
+  digit-of-reads.Learnt,
+  put-digits-below t,
+  put-digits.Post,
+) (put-digits-at t) put-digits.Post
+put-digits-same-length t c = search needs
+
+-- src/lib.rt:145:9
+put-digits-returns-2 : (t : ℕ) → put-digits-lts.Need-returns-2 (
+  digit-of-reads.Asked,
+  digit-of-reads.Learnt,
+  put-digits-below t,
+  put-digits.Post,
+) (put-digits-at t) put-digits.Post
+put-digits-returns-2 t c = let a = c .before .before .before .before .args in last-put (now (a .out)) (a .at) (a .most) (a .n) (c .before .before .if1 .left) (c .before .if2 .taken) (c .digit-of .ensures)
+
+-- src/lib.rt:147:27
+put-digits-sub-put-digits : (t : ℕ) → put-digits-lts.Need-sub-put-digits (
+  digit-of-reads.Asked,
+  digit-of-reads.Learnt,
+  put-digits-below t,
+  put-digits.Post,
+) (put-digits-at t) put-digits.Post
+put-digits-sub-put-digits t c = let n = c .before .if1 .left in omega arith
+
+-- src/lib.rt:147:9
+put-digits-put-digits-requires : (t : ℕ) → put-digits-lts.Need-put-digits-requires (
+  digit-of-reads.Asked,
+  digit-of-reads.Learnt,
+  put-digits-below t,
+  put-digits.Post,
+) (put-digits-at t) put-digits.Post
+put-digits-put-digits-requires t c κs = let s = c .before .before .before .before in let n = c .before .before .if1 .left in (omega (arith, s .pre .0), omega (arith, s .pre .1))
+
+-- src/lib.rt:148:17
+put-digits-digit-of-requires-2 : (t : ℕ) → put-digits-lts.Need-digit-of-requires-2 (
+  digit-of-reads.Asked,
+  digit-of-reads.Learnt,
+  put-digits-below t,
+  put-digits.Post,
+) (put-digits-at t) put-digits.Post
+put-digits-digit-of-requires-2 t c κs = omega arith
+
+-- src/lib.rt:148:5
+put-digits-slice-write-out-2 : (t : ℕ) → put-digits-lts.Need-slice-write-out-2 (
+  digit-of-reads.Asked,
+  digit-of-reads.Learnt,
+  put-digits-below t,
+  put-digits.Post,
+) (put-digits-at t) put-digits.Post
+put-digits-slice-write-out-2 t c = 
+    let p = c .before .before .before in
+    let e = p .before .before in
+    let s = e .before .before .before in
+    let a = s .args in
+    more-room (now (a .out)) (a .at) (a .most) (a .n) (e .before .if1 .left) (p .put-digits .ensures) (s .pre .1)
+
+-- src/lib.rt:149:5
+put-digits-add-result-2 : (t : ℕ) → put-digits-lts.Need-add-result-2 (
+  digit-of-reads.Asked,
+  digit-of-reads.Learnt,
+  put-digits-below t,
+  put-digits.Post,
+) (put-digits-at t) put-digits.Post
+put-digits-add-result-2 t c = 
+    let p = c .before .before .before in
+    let e = p .before .before in
+    let s = e .before .before .before in
+    let a = s .args in
+    let r = more-room (now (a .out)) (a .at) (a .most) (a .n) (e .before .if1 .left) (p .put-digits .ensures) (s .pre .1) in
+    let l = append-length (p .put-digits .ensures) in
+    omega arith
+
+-- src/lib.rt:136:1
+put-digits-same-length-2 : (t : ℕ) → put-digits-lts.Need-same-length-2 (
+  digit-of-reads.Asked,
+  digit-of-reads.Learnt,
+  put-digits-below t,
+  put-digits.Post,
+) (put-digits-at t) put-digits.Post
+put-digits-same-length-2 t c = search needs
+
+-- src/lib.rt:136:1
+put-digits-returns-3 : (t : ℕ) → put-digits-lts.Need-returns-3 (
+  digit-of-reads.Asked,
+  digit-of-reads.Learnt,
+  put-digits-below t,
+  put-digits.Post,
+) (put-digits-at t) put-digits.Post
+put-digits-returns-3 t c = 
+    let p = c .before .before .before in
+    let e = p .before .before in
+    let s = e .before .before .before in
+    let a = s .args in
+    more-put (now (a .out)) (a .at) (a .most) (a .n) (e .before .if1 .left) (p .put-digits .ensures) (e .if2 .left) (c .digit-of2 .ensures)
+
+pub +put-digits-spec : {M : Type 1} → statement M
++put-digits-spec = close μ-put-digits λ t. put-digits-lts.spec (
+  digit-of-reads.Asked,
+  digit-of-reads.Learnt,
+  put-digits-below t,
+  put-digits.Post,
+)
+    (put-digits-at t)
+    put-digits.Post
+    (put-digits-returns t)
+    (put-digits-digit-of-requires t)
+    (put-digits-slice-write-out t)
+    (put-digits-add-result t)
+    (put-digits-same-length t)
+    (put-digits-returns-2 t)
+    (put-digits-sub-put-digits t)
+    (put-digits-put-digits-requires t)
+    (put-digits-digit-of-requires-2 t)
+    (put-digits-slice-write-out-2 t)
+    (put-digits-add-result-2 t)
+    (put-digits-same-length-2 t)
+    (put-digits-returns-3 t)

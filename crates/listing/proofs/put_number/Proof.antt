@@ -1,0 +1,36 @@
+-- `listing::put_number` meets its contract: the digits, and the character after them.
+use Prim.Native.Nat.{_-_}
+use native.Mathlib.Omega.{arith}
+use borrow.Author.Needs.{needs}
+use Rattle.listing.proofs.LineLaws.{append-one, append-length, append-room, width-digits}
+use Rattle.listing.proofs.put_number.Statement.{statement}
+use Rattle.listing.proofs.put_number.Tie as tie
+use Rattle.listing.proofs.put_digits.Reads as put-digits-reads
+
+put-digits-requires : tie.Need-put-digits-requires
+put-digits-requires c κs = search needs
+
+slice-write-out : tie.Need-slice-write-out
+slice-write-out c = 
+    let d = c .before .before in
+    let s = d .before .before .before in
+    let r = append-room (d .put-digits .ensures) 20 1 (width-digits 20 (s .args .n)) (omega arith) in
+    omega arith
+
+add-result : tie.Need-add-result
+add-result c = 
+    let d = c .before .before in
+    let s = d .before .before .before in
+    let r = append-room (d .put-digits .ensures) 20 1 (width-digits 20 (s .args .n)) (omega arith) in
+    let l = append-length (d .put-digits .ensures) in
+    omega arith
+
+same-length : tie.Need-same-length
+same-length c = search needs
+
+returns : tie.Need-returns
+returns c = let d = c .before .before in append-one (d .put-digits .ensures) (d .before .before .before .args .after)
+
+pub put-number-spec : {M : Type 1} → statement M
+put-number-spec =
+    tie.close (tie.spec put-digits-requires slice-write-out add-result same-length returns)
