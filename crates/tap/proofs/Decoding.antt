@@ -21,7 +21,7 @@ use Rattle.tap.specs.declared.TapAnswer.{TapAnswer}
 use Rattle.tap.specs.declared.TapAnswer.the-variants.{Accepted, Refused}
 use Rattle.tap.specs.declared.Header.{Header}
 use Rattle.tap.specs.declared.Header.the-variants.{Version, Refused as WrongHeader}
-use Rattle.tap.specs.Reading.{wrongLetters, tapVersion, durationsIn, Tap, tapWith, tapeOf, durationsOf, tapOf, fitting, readTap, Reads}
+use Rattle.tap.specs.Reading.{wrongLetters, tapVersion, durationsIn, Tap, tapWith, infoOf, durationsOf, tapOf, fitting, readTap, Reads}
 use Rattle.tap.specs.Forms.{versionAnswer, durationAt, readIn}
 use Rattle.tap.proofs.DataLaws.{from, widthAt, form-next, form-cut, form-over}
 use Rattle.tap.proofs.Heading.{version-long}
@@ -120,7 +120,7 @@ module _ (v : ℕ) (bytes : List ℕ) where
 -- ---- What the reader comes to
 
 reads-refused : (o : Outcome Tap) (out : List ℕ) {r s : Refusal} → o ≡ told s → r ≡ s → Reads o out (Refused r) out
-reads-refused o out {s = s} e q = (told-refused s e tapeOf q, puts-refused s out (mapped-refused s e durationsOf))
+reads-refused o out {s = s} e q = (told-refused s e infoOf q, puts-refused s out (mapped-refused s e durationsOf))
 
 module _ (v : ℕ) (bytes out : List ℕ) {a : Put} (e : putAnswer a ≡ mapped length (durationsIn v 0 bytes)) where
   pub data-cut : {r : Refusal} → a ≡ CountRefused r → Reads (readIn (length out) v bytes) out (Refused r) out

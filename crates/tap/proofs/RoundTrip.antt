@@ -15,7 +15,7 @@ use Rattle.lists.specs.Places.{part}
 use Rattle.lists.specs.Buffer.{putAt}
 use Rattle.lists.specs.Text.{ascii, lowFirst, fromLow, equal}
 use Rattle.lists.proofs.BufferLaws.{part-put, rest-front}
-use Rattle.lists.proofs.PlaceLaws.{none-first}
+use Rattle.lists.proofs.PlaceLaws.{none-first, first-none}
 use Rattle.lists.proofs.TextLaws.{length-low, from-low, same-equal}
 use Rattle.refusal.specs.declared.Reason.the-variants.{WrongSize, NoRoom, WrongTapVersion, NoTapForm}
 use Rattle.refusal.specs.declared.Put.the-variants.{Count}
@@ -23,11 +23,11 @@ use Rattle.refusal.specs.Refusal.{Outcome, accepted, refusalAt, mapped, puts, W
 use Rattle.refusal.proofs.OutcomeLaws.{accepted-next, first-accepted, first-found, then-accepted, mapped-accepted}
 use Rattle.pulse.specs.Units.{unitCycles}
 use Rattle.tap.specs.declared.TapAnswer.{TapAnswer}
-use Rattle.tap.specs.Tap.{letters, longUnit, tapHeader, longForm, formOf, tapData, tapFile, wrongVersion, hasNoForm, firstWithout, measured, placed, writeTap}
+use Rattle.tap.specs.Tap.{letters, longUnit, tapHeader, longForm, formOf, tapData, tapFile, wrongVersion, hasNoForm, firstWithout, dataOf, putFile, writeTap}
 use Rattle.tap.specs.Reading.{wrongLetters, wrongCount, tapVersion, durationsIn, Tap, tapWith, tapOf, fitting, readTap, Reads}
-use Rattle.tap.specs.Claim.{Returned, RoundTrip}
+use Rattle.tap.specs.Claim.{Returned, Right, RoundTrip}
 use Rattle.tap.specs.Forms.{byteUnits}
-use Rattle.tap.proofs.FormLaws.{units-back, form-units, form-other, form-zero, form-missing, form-long, long-between, long-fits, long-over, width-data}
+use Rattle.tap.proofs.FormLaws.{units-back, form-units, form-other, form-zero, form-missing, form-long, long-between, long-fits, long-over, width-data, without-zero, without-one}
 use Rattle.tap.proofs.Writing.{length-header, length-file}
 
 -- ---- The header
@@ -137,19 +137,19 @@ module _ (v : ℕ) (ds : List ℕ) (few : length ds ≤ 1048576) (old : v ≤ 1)
 
 -- ---- What the writer accepted
 
-pub record Sent (room v : ℕ) (ds bytes : List ℕ) : Type 0 where
+record Sent (room v : ℕ) (ds bytes : List ℕ) : Type 0 where
   pub few : length ds ≤ 1048576
   pub old : v ≤ 1
   pub has : firstWithout v ds ≡ none
   pub fits : length bytes ≤ room
   pub file : bytes ≡ tapFile v (tapData v ds)
 
-pub accepted-sent : (room v : ℕ) (ds bytes : List ℕ) → writeTap room v ds ≡ accepted bytes → Sent room v ds bytes
-unfolding writeTap measured placed
+accepted-sent : (room v : ℕ) (ds bytes : List ℕ) → writeTap room v ds ≡ accepted bytes → Sent room v ds bytes
+unfolding writeTap dataOf putFile
 accepted-sent room v ds bytes e =
     let s = accepted-next (ltb 1048576 (length ds)) (refusalAt WrongSize 0) _ bytes e in
     let t = accepted-next (wrongVersion v) (refusalAt WrongTapVersion 0) _ bytes (s .1) in
-    let m = then-accepted (measured v ds) (placed room v) bytes (t .1) in
+    let m = then-accepted (dataOf v ds) (putFile room v) bytes (t .1) in
     let f : accepted (tapData v ds) ≡ accepted (m .0) = first-accepted NoTapForm (firstWithout v ds) (accepted (tapData v ds)) (m .0) (m .1) in
     let g : tapData v ds ≡ m .0 = cc in
     let p = accepted-next (ltb room (length (tapFile v (m .0)))) (refusalAt NoRoom 0) _ bytes (m .2) in
@@ -162,23 +162,22 @@ accepted-sent room v ds bytes e =
       file = sym q ∙ ap (tapFile v) (sym g);
     }
 
--- the other way: such durations with room are written
-pub sent-accepted : (room v : ℕ) (ds bytes : List ℕ) → Sent room v ds bytes → writeTap room v ds ≡ accepted bytes
-unfolding writeTap measured placed
-sent-accepted room v ds bytes s =
+-- the other way: right durations with room are written
+right-taken : (room v : ℕ) (ds : List ℕ) → Right v ds → length (tapFile v (tapData v ds)) ≤ room → writeTap room v ds ≡ accepted (tapFile v (tapData v ds))
+unfolding writeTap dataOf putFile
+right-taken room v ds s h =
     rw (
       le-ltb 1048576 (length ds) (s .few),
       le-ltb 1 v (s .old),
-      s .has,
-      ← (s .file),
-      le-ltb room (length bytes) (s .fits),
+      first-none (λ i. hasNoForm v (getD ds i 0)) (length ds) 0 (λ i a b. s .forms i (omega arith)),
+      le-ltb room (length (tapFile v (tapData v ds))) h,
     )
 
 -- ---- The claim
 
-returned : (v : ℕ) (ds bytes out : List ℕ) → length ds ≤ length out → (r : TapAnswer) (out′ : List ℕ) (o : Outcome Tap) → o ≡ accepted (tapWith v ds)
+returned : (v : ℕ) (ds out : List ℕ) → length ds ≤ length out → (r : TapAnswer) (out′ : List ℕ) (o : Outcome Tap) → o ≡ accepted (tapWith v ds)
     → Reads o out r out′ → Returned v ds out r out′
-returned v ds bytes out h r out′ o e s =
+returned v ds out h r out′ o e s =
     let t = rw e at s in
     record {
       answer = t .0;
@@ -193,9 +192,12 @@ written-front file bytes count file′ l h e = rw (e, ← l) (part-put file 0 by
 pub round-trip : RoundTrip
 round-trip = record {
   returned = λ v ds file count file′ w out h r out′ s.
-      let m = mapped-accepted length (writeTap (length file) v ds) (w .0) in
-      let t = accepted-sent (length file) v ds (m .0) (m .1) in
-      let p : file′ ≡ putAt file 0 (m .0) = w .1 ∙ ap (λ o. putAt file 0 (puts o)) (m .1) in
-      let b : take count file′ ≡ m .0 = written-front file (m .0) count file′ (m .2) (t .fits) p in
-      returned v ds (m .0) out h r out′ (readTap (length out) (take count file′)) (rw (b, t .file) (read-back v ds (t .few) (t .old) (t .has) (length out) h)) s;
+    let m = mapped-accepted length (writeTap (length file) v ds) (w .0) in
+    let t = accepted-sent (length file) v ds (m .0) (m .1) in
+    let p : file′ ≡ putAt file 0 (m .0) = w .1 ∙ ap (λ o. putAt file 0 (puts o)) (m .1) in
+    let b : take count file′ ≡ m .0 = written-front file (m .0) count file′ (m .2) (t .fits) p in
+    returned v ds out h r out′ (readTap (length out) (take count file′)) (rw (b, t .file) (read-back v ds (t .few) (t .old) (t .has) (length out) h)) s;
+  taken = right-taken;
+  zero = without-zero;
+  one = without-one;
 }

@@ -17,7 +17,7 @@ use Rattle.refusal.specs.declared.Put.{Put}
 use Rattle.refusal.specs.declared.Put.the-variants.{Count, Refused}
 use Rattle.refusal.specs.Refusal.{accepted, refusalAt, told, mapped, andThen, putAnswer, Written}
 use Rattle.refusal.proofs.OutcomeLaws.{first-accepted, mapped-told, mapped-accepted, written-refused, written-accepted}
-use Rattle.tap.specs.Tap.{tapHeader, formOf, tapData, tapFile, hasNoForm, firstWithout, measured, placed, writeTap}
+use Rattle.tap.specs.Tap.{tapHeader, formOf, tapData, tapFile, hasNoForm, firstWithout, dataOf, putFile, writeTap}
 use Rattle.tap.proofs.FormLaws.{width-form, data-next, data-over}
 
 -- a long form is stored byte by byte
@@ -33,7 +33,7 @@ long-put out at n p q r =
 -- ---- Measuring
 
 module _ (v : ℕ) (ds : List ℕ) where
-  -- with those measured, the durations left give all data bytes, and the first without a form
+  -- with those dataOf, the durations left give all data bytes, and the first without a form
   pub record Measured (i n : ℕ) : Type 0 where
     pub within : i ≤ length ds
     pub few : n ≤ 4 * i
@@ -56,14 +56,14 @@ module _ (v : ℕ) (ds : List ℕ) where
         }
 
     pub measure-wrong : {w : ℕ} {r : Refusal} → i < length ds → w ≡ length (formOf v (getD ds i 0)) → w ≡ 0 → r ≡ refusalAt NoTapForm i
-        → told r ≡ mapped length (measured v ds)
-    unfolding measured
+        → told r ≡ mapped length (dataOf v ds)
+    unfolding dataOf
     measure-wrong h e z q =
         let f = first-here (λ j. hasNoForm v (getD ds j 0)) (length ds) i h (eq-eqb (length (formOf v (getD ds i 0))) 0 (sym e ∙ z)) in
         rw (q, ← (u .none), f)
 
-    pub measure-done : length ds ≤ i → accepted n ≡ mapped length (measured v ds)
-    unfolding measured
+    pub measure-done : length ds ≤ i → accepted n ≡ mapped length (dataOf v ds)
+    unfolding dataOf
     measure-done h =
         let f = first-over (λ j. hasNoForm v (getD ds j 0)) (length ds) i h in
         let l = ap length (data-over v ds i h) in
@@ -109,20 +109,20 @@ pub length-file : (v : ℕ) (bytes : List ℕ) → length (tapFile v bytes) ≡ 
 length-file v bytes = length-append (tapHeader v (length bytes)) bytes ∙ rw length-header
 
 module _ (out : List ℕ) (v : ℕ) (bytes : List ℕ) {n : ℕ} (e : n ≡ length bytes) where
-  pub placed-no-room : {r : Refusal} → length out < 20 + n → r ≡ refusalAt NoRoom 0 → Written (placed (length out) v bytes) out (Refused r) out
-  unfolding placed
-  placed-no-room h = written-refused (placed (length out) v bytes) out (rw (lt-ltb (length out) (length (tapFile v bytes)) (rw (length-file v bytes, ← e) h)))
+  pub file-no-room : {r : Refusal} → length out < 20 + n → r ≡ refusalAt NoRoom 0 → Written (putFile (length out) v bytes) out (Refused r) out
+  unfolding putFile
+  file-no-room h = written-refused (putFile (length out) v bytes) out (rw (lt-ltb (length out) (length (tapFile v bytes)) (rw (length-file v bytes, ← e) h)))
 
-  pub placed-whole : {header one two : List ℕ} → 20 + n ≤ length out → header ≡ tapHeader v n → one ≡ putAt out 0 header → two ≡ sets one 20 bytes
-      → Written (placed (length out) v bytes) out (Count (20 + n)) two
-  unfolding placed
-  placed-whole {header} {one} {two} h p q s =
+  pub file-whole : {header one two : List ℕ} → 20 + n ≤ length out → header ≡ tapHeader v n → one ≡ putAt out 0 header → two ≡ sets one 20 bytes
+      → Written (putFile (length out) v bytes) out (Count (20 + n)) two
+  unfolding putFile
+  file-whole {header} {one} {two} h p q s =
       let l = length-file v bytes in
       let k = length-header v (length bytes) in
       let g : header ≡ tapHeader v (length bytes) = p ∙ ap (tapHeader v) e in
       let o : one ≡ sets out 0 (tapHeader v (length bytes)) = q ∙ ap (putAt out 0) g ∙ sym (put-room out 0 (tapHeader v (length bytes)) (omega arith)) in
       let w : two ≡ sets out 0 (tapFile v bytes) = s ∙ ap (λ b. sets b 20 bytes) o ∙ sym (sets-append (tapHeader v (length bytes)) bytes out 0 ∙ rw (zero-add, k)) in
-      written-accepted (placed (length out) v bytes) out (rw (le-ltb (length out) (length (tapFile v bytes)) (omega arith))) (l ∙ rw e) (w ∙ put-room out 0 (tapFile v bytes) (omega arith))
+      written-accepted (putFile (length out) v bytes) out (rw (le-ltb (length out) (length (tapFile v bytes)) (omega arith))) (l ∙ rw e) (w ∙ put-room out 0 (tapFile v bytes) (omega arith))
 
 module _ (out : List ℕ) (v : ℕ) (ds : List ℕ) where
   pub too-many : {r : Refusal} → 1048576 < length ds → r ≡ refusalAt WrongSize 0 → Written (writeTap (length out) v ds) out (Refused r) out
@@ -134,24 +134,24 @@ module _ (out : List ℕ) (v : ℕ) (ds : List ℕ) where
     unfolding writeTap
     too-new h = written-refused (writeTap (length out) v ds) out (rw (le-ltb 1048576 (length ds) few, lt-ltb 1 v h))
 
-    next : v ≤ 1 → writeTap (length out) v ds ≡ andThen (measured v ds) (placed (length out) v)
+    next : v ≤ 1 → writeTap (length out) v ds ≡ andThen (dataOf v ds) (putFile (length out) v)
     unfolding writeTap
     next old = rw (le-ltb 1048576 (length ds) few, le-ltb 1 v old)
 
-    module _ (old : v ≤ 1) {a : Put} (e : putAnswer a ≡ mapped length (measured v ds)) where
+    module _ (old : v ≤ 1) {a : Put} (e : putAnswer a ≡ mapped length (dataOf v ds)) where
       pub without-form : {r : Refusal} → a ≡ Refused r → Written (writeTap (length out) v ds) out (Refused r) out
       without-form {r} q =
-          written-refused (writeTap (length out) v ds) out {s = r} (next old ∙ ap (λ o. andThen o (placed (length out) v)) (mapped-told length (measured v ds) r (sym (ap putAnswer q) ∙ e))) refl
+          written-refused (writeTap (length out) v ds) out {s = r} (next old ∙ ap (λ o. andThen o (putFile (length out) v)) (mapped-told length (dataOf v ds) r (sym (ap putAnswer q) ∙ e))) refl
 
       module _ {n : ℕ} (q : a ≡ Count n) where
-        all-forms : measured v ds ≡ accepted (tapData v ds)
-        unfolding measured
+        all-forms : dataOf v ds ≡ accepted (tapData v ds)
+        unfolding dataOf
         all-forms =
-            let m = mapped-accepted length (measured v ds) (sym (ap putAnswer q) ∙ e) in
+            let m = mapped-accepted length (dataOf v ds) (sym (ap putAnswer q) ∙ e) in
             m .1 ∙ sym (first-accepted NoTapForm (firstWithout v ds) (accepted (tapData v ds)) (m .0) (m .1))
 
         pub data-bytes : n ≡ length (tapData v ds)
         data-bytes = let m : accepted n ≡ accepted (length (tapData v ds)) = sym (ap putAnswer q) ∙ e ∙ ap (mapped length) all-forms in cc
 
-        pub all-written : (r : Put) {out′ : List ℕ} → Written (placed (length out) v (tapData v ds)) out r out′ → Written (writeTap (length out) v ds) out r out′
+        pub all-written : (r : Put) {out′ : List ℕ} → Written (putFile (length out) v (tapData v ds)) out r out′ → Written (writeTap (length out) v ds) out r out′
         all-written r w = rw (next old, all-forms) w

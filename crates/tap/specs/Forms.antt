@@ -12,7 +12,7 @@ use Rattle.tap.specs.declared.Header.{Header}
 use Rattle.tap.specs.declared.Header.the-variants.{Version, Refused}
 use Rattle.tap.specs.declared.Form.{Form}
 use Rattle.tap.specs.declared.Form.the-variants.{Byte, Long, Missing}
-use Rattle.tap.specs.Tap.{longUnit}
+use Rattle.tap.specs.Tap.{zeroCycles, longUnit}
 use Rattle.tap.specs.Reading.{Tap, tapWith, durationsIn, fitting}
 
 -- ---- Reading
@@ -33,7 +33,7 @@ formWidth version first = cond (isLong version first) 4 1
 unfoldable pub durationAt : (version : ℕ) (bytes : List ℕ) (i : ℕ) → ℕ
 durationAt version bytes i =
     cond (isLong version (getD bytes i 0)) (fromLow (part bytes (i + 1) 3) * longUnit)
-    (cond (eqb (getD bytes i 0) 0) 2048 (getD bytes i 0 * unitCycles))
+    (cond (eqb (getD bytes i 0) 0) zeroCycles (getD bytes i 0 * unitCycles))
 
 -- what the data of a file come to whose header is sound
 unfoldable pub readIn : (room version : ℕ) (bytes : List ℕ) → Outcome Tap

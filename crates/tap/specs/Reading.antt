@@ -11,10 +11,10 @@ use Rattle.lists.specs.Text.{fromLow, equal}
 use Rattle.refusal.specs.declared.Reason.the-variants.{NoRoom, WrongTapHeader, WrongTapVersion, CutLongForm}
 use Rattle.refusal.specs.Refusal.{Outcome, accepted, refuse, told, mapped, andThen, puts}
 use Rattle.pulse.specs.Units.{unitCycles}
-use Rattle.tap.specs.declared.Tape.{Tape}
+use Rattle.tap.specs.declared.TapInfo.{TapInfo}
 use Rattle.tap.specs.declared.TapAnswer.{TapAnswer}
 use Rattle.tap.specs.declared.TapAnswer.the-variants.{Accepted, Refused}
-use Rattle.tap.specs.Tap.{letters, longUnit, wrongVersion}
+use Rattle.tap.specs.Tap.{letters, zeroCycles, longUnit, wrongVersion}
 
 -- ---- The header
 
@@ -36,13 +36,13 @@ tapVersion file =
 
 -- ---- The data
 
--- the durations of data bytes that begin at index `at` of the data
+-- the durations of data bytes that begin at index `at` of the data. Only versions 0 and 1 come here; any other would read as version 1.
 unfoldable pub durationsIn : (version at : ℕ) (bytes : List ℕ) → Outcome (List ℕ)
 durationsIn version at [] = accepted []
 -- a byte b that is not 0 is 8b cycles
 durationsIn version at (suc b ∷ bytes) = mapped (λ ds. suc b * unitCycles ∷ ds) (durationsIn version (at + 1) bytes)
 -- in version 0 a zero byte is read as 2,048 cycles
-durationsIn zero at (zero ∷ bytes) = mapped (λ ds. 2048 ∷ ds) (durationsIn zero (at + 1) bytes)
+durationsIn zero at (zero ∷ bytes) = mapped (λ ds. zeroCycles ∷ ds) (durationsIn zero (at + 1) bytes)
 -- in version 1 it is followed by three bytes, low first
 durationsIn (suc version) at (zero ∷ low ∷ middle ∷ high ∷ bytes) =
     mapped (λ ds. fromLow (low ∷ middle ∷ high ∷ []) * longUnit ∷ ds) (durationsIn (suc version) (at + 4) bytes)
@@ -62,8 +62,8 @@ abbrev pub durationsOf : Tap → List ℕ
 durationsOf t = t .durations
 
 -- what is answered of it: its version and the number of durations
-abbrev pub tapeOf : Tap → Tape
-tapeOf t = record { version = t .version; count = length (t .durations) }
+abbrev pub infoOf : Tap → TapInfo
+infoOf t = record { version = t .version; count = length (t .durations) }
 
 abbrev pub tapWith : (version : ℕ) (durations : List ℕ) → Tap
 tapWith version ds = record { version = version; durations = ds }
@@ -80,10 +80,10 @@ unfoldable pub readTap : (room : ℕ) (file : List ℕ) → Outcome Tap
 readTap room file = andThen (tapOf file) (fitting room)
 
 -- what the reader answers
-abbrev pub tapAnswer : TapAnswer → Outcome Tape
+abbrev pub tapAnswer : TapAnswer → Outcome TapInfo
 tapAnswer (Accepted tape) = accepted tape
 tapAnswer (Refused r) = told r
 
 -- what the reader promises: it answers r and leaves out′ in the buffer that held out, as the outcome says
 abbrev pub Reads : (o : Outcome Tap) (out : List ℕ) (r : TapAnswer) (out′ : List ℕ) → Type 0
-Reads o out r out′ = (tapAnswer r ≡ mapped tapeOf o) × (out′ ≡ putAt out 0 (puts (mapped durationsOf o)))
+Reads o out r out′ = (tapAnswer r ≡ mapped infoOf o) × (out′ ≡ putAt out 0 (puts (mapped durationsOf o)))

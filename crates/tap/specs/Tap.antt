@@ -1,5 +1,5 @@
 -- TAP files as written (document 01, 'TAP files').
-use Prim.Native.Nat.{ℕ, _+_, _/_, _%_, _^_}
+use Prim.Native.Nat.{ℕ, _/_, _%_, _^_}
 use mathlib.Core.Bool.{Bool, cond, _&&_}
 use mathlib.Core.List.{List, [], _∷_, _++_}
 use mathlib.Core.Option.{Option}
@@ -20,11 +20,15 @@ letters = ascii "C64-TAPE-RAW"
 unfoldable pub tapHeader : (version count : ℕ) → List ℕ
 tapHeader version count = letters ++ version ∷ 0 ∷ 0 ∷ 0 ∷ lowFirst 4 count
 
--- cycles to one count of the long form: following source document 003's own example it counts in units, until a real tape shows otherwise
+-- cycles that a zero byte stands for in version 0
+abbrev pub zeroCycles : ℕ
+zeroCycles = 2048
+
+-- cycles that one count of the long form stands for: following source document 003's own example it counts in units, until a real tape shows otherwise
 abbrev pub longUnit : ℕ
 longUnit = unitCycles
 
--- a zero byte followed by three bytes, low first; none for a duration that is no whole count, or whose count three bytes do not hold
+-- a zero byte followed by three bytes, low first, for the counts that three bytes hold: 0 to 16,777,215, which is 134,217,720 cycles
 unfoldable pub longForm : (duration : ℕ) → List ℕ
 longForm d = cond (eqb (d % longUnit) 0 && ltb (d / longUnit) (2 ^ 24)) (0 ∷ lowFirst 3 (d / longUnit)) []
 
@@ -34,10 +38,11 @@ formOf version d =
     -- the one-byte form for multiples of 8 from 8 to 2,040
     cond (eqb (d % unitCycles) 0 && leb 8 d && leb d 2040) (d / unitCycles ∷ [])
     -- version 0 writes 2,048 as a zero byte
-    (cond (eqb version 0) (cond (eqb d 2048) (0 ∷ []) [])
+    (cond (eqb version 0) (cond (eqb d zeroCycles) (0 ∷ []) [])
     -- version 1 writes 0, and multiples of 8 from 2,048 to 134,217,720, in the long form
     (longForm d))
 
+-- the forms one after the other; a duration without one, which the writer refuses, leaves nothing
 unfoldable pub tapData : (version : ℕ) (durations : List ℕ) → List ℕ
 tapData version [] = []
 tapData version (d ∷ ds) = formOf version d ++ tapData version ds
@@ -58,16 +63,16 @@ abbrev pub firstWithout : (version : ℕ) (durations : List ℕ) → Option ℕ
 firstWithout version ds = firstFrom (λ i. hasNoForm version (getD ds i 0)) (length ds) 0
 
 -- the data, or refusal 13 for the first duration that has no form
-unfoldable pub measured : (version : ℕ) (durations : List ℕ) → Outcome (List ℕ)
-measured version ds = refuseFirst NoTapForm (firstWithout version ds) (accepted (tapData version ds))
+unfoldable pub dataOf : (version : ℕ) (durations : List ℕ) → Outcome (List ℕ)
+dataOf version ds = refuseFirst NoTapForm (firstWithout version ds) (accepted (tapData version ds))
 
 -- a file with these data into `room` places, or refusal 2
-unfoldable pub placed : (room version : ℕ) (bytes : List ℕ) → Outcome (List ℕ)
-placed room version bytes = cond (ltb room (length (tapFile version bytes))) (refuse NoRoom 0) (accepted (tapFile version bytes))
+unfoldable pub putFile : (room version : ℕ) (bytes : List ℕ) → Outcome (List ℕ)
+putFile room version bytes = cond (ltb room (length (tapFile version bytes))) (refuse NoRoom 0) (accepted (tapFile version bytes))
 
 -- what is written into `room` places: refusals 1, 11, 13 and 2 in this order, else the file
 unfoldable pub writeTap : (room version : ℕ) (durations : List ℕ) → Outcome (List ℕ)
 writeTap room version ds =
     cond (ltb 1048576 (length ds)) (refuse WrongSize 0)
     (cond (wrongVersion version) (refuse WrongTapVersion 0)
-    (andThen (measured version ds) (placed room version)))
+    (andThen (dataOf version ds) (putFile room version)))

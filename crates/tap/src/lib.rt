@@ -3,8 +3,8 @@
 //   0 .. 11        12       13 .. 15  16 .. 19                         20 ..
 //   C64-TAPE-RAW   version  0, 0, 0   number of data bytes, low first  data
 //
-// A data byte that is not 0 counts units of eight cycles. A zero byte stands for 2,048 cycles in version 0; in version 1 a count of three
-// bytes follows it, low first, which is the long form.
+// A data byte that is not 0 counts units of eight cycles. A zero byte stands for 2,048 cycles in version 0. In version 1 it begins the
+// long form: a count of three bytes follows it, low first, in units of eight cycles too.
 use pulse::Cycles;
 use pulse::InCycles;
 use pulse::InUnits;
@@ -21,7 +21,7 @@ ghost use Rattle.lists.specs.Places.{part};
 ghost use Rattle.lists.specs.Text.{fromLow, lowFirst};
 ghost use Rattle.refusal.specs.Refusal.{accepted, mapped, puts, putAnswer, Written};
 ghost use Rattle.pulse.specs.Units.{unitCycles};
-ghost use Rattle.tap.specs.Tap.{tapHeader, longUnit, longForm, formOf, tapData, measured, placed, writeTap};
+ghost use Rattle.tap.specs.Tap.{tapHeader, longUnit, longForm, formOf, tapData, dataOf, putFile, writeTap};
 ghost use Rattle.tap.specs.Reading.{wrongLetters, wrongCount, tapVersion, durationsIn, readTap, Reads};
 ghost use Rattle.tap.specs.Forms.{versionAnswer, formBytes, byteUnits, formWidth, durationAt, readIn};
 
@@ -35,7 +35,7 @@ const RESERVED_AT: usize = 13;
 
 const COUNT_AT: usize = 16;
 
-const MOST_VERSION: u8 = 1;
+const LAST_VERSION: u8 = 1;
 
 const MOST_DURATIONS: usize = 1_048_576;
 
@@ -48,21 +48,21 @@ const MOST_BYTE_UNITS: u32 = 255;
 // A long form is a zero byte and three bytes of count.
 const LONG_BYTES: usize = 4;
 
-// How many counts three bytes have.
-const LONG_COUNTS: usize = 0x100_0000;
+// How many numbers three bytes hold.
+const THREE_BYTE_VALUES: usize = 0x100_0000;
 
-// How many values a byte has: what each byte of a number counts of the one before it.
+// How many numbers a byte holds.
 const BYTE_VALUES: usize = 256;
 
 // What an accepted TAP file answers: its version, and the number of durations put.
-pub struct Tape {
+pub struct TapInfo {
     pub version: u8,
     pub count: usize,
 }
 
 // What the TAP reader answers.
 pub enum TapAnswer {
-    Accepted(Tape),
+    Accepted(TapInfo),
     Refused(Refusal),
 }
 
@@ -85,7 +85,7 @@ pub fn write_tap(durations: &[u32], version: u8, out: &mut [u8]) -> Put
     if MOST_DURATIONS < durations.len() {
         return Put::Refused(refusal::at(Reason::WrongSize, 0));
     }
-    if MOST_VERSION < version {
+    if LAST_VERSION < version {
         return Put::Refused(refusal::at(Reason::WrongTapVersion, 0));
     }
     match measure_data(version, durations) {
@@ -109,7 +109,7 @@ fn read_header(file: &[u8]) -> Header
         return Header::Refused(refusal::at(Reason::WrongTapHeader, 0));
     }
     let version = file[VERSION_AT];
-    if MOST_VERSION < version {
+    if LAST_VERSION < version {
         return Header::Refused(refusal::at(Reason::WrongTapVersion, 0));
     }
     if wrong_count(file) {
@@ -133,12 +133,12 @@ fn wrong_count(file: &[u8]) -> bool
     requires { ⌜ 20 ≤ length (now file) ⌝ }
     ensures { λ r. ⌜ r ≡ wrongCount (now (file .entry)) ⌝ }
 {
-    if !check::same(&file[RESERVED_AT..COUNT_AT], &[0u8; 3]) {
+    if !check::same(&file[RESERVED_AT..COUNT_AT], &[0u8; COUNT_AT - RESERVED_AT]) {
         return true;
     }
     let low = three_bytes(file, COUNT_AT) as usize;
-    let high = wide(file[COUNT_AT + 3]) as usize;
-    low + high * LONG_COUNTS != file.len() - HEADER_BYTES
+    let high = wide(file[COUNT_AT + 3]);
+    low + high * THREE_BYTE_VALUES != file.len() - HEADER_BYTES
 }
 
 // The number that three bytes make.
@@ -147,14 +147,16 @@ fn three_bytes(bytes: &[u8], at: usize) -> u32
     ensures number { λ r. ⌜ r ≡ fromLow (part (now (bytes .entry)) at 3) ⌝ }
     ensures small { λ r. ⌜ r < 16777216 ⌝ }
 {
-    wide(bytes[at]) + 256 * (wide(bytes[at + 1]) + 256 * wide(bytes[at + 2]))
+    let n = wide(bytes[at])
+        + BYTE_VALUES * (wide(bytes[at + 1]) + BYTE_VALUES * wide(bytes[at + 2]));
+    n as u32
 }
 
-fn wide(b: u8) -> u32
+fn wide(b: u8) -> usize
     ensures { λ r. ⌜ r ≡ b ⌝ }
     ensures { λ r. ⌜ r < 256 ⌝ }
 {
-    b as u32
+    b as usize
 }
 
 // Reads the data of a file whose header is sound.
@@ -168,7 +170,7 @@ fn read_data(version: u8, bytes: &[u8], out: &mut [u32]) -> TapAnswer
                 return TapAnswer::Refused(refusal::at(Reason::NoRoom, 0));
             }
             put_durations(version, bytes, out);
-            TapAnswer::Accepted(Tape { version, count })
+            TapAnswer::Accepted(TapInfo { version, count })
         }
     }
 }
@@ -224,24 +226,24 @@ fn duration_at(version: u8, bytes: &[u8], i: usize) -> u32
 {
     let first = bytes[i];
     if first != 0 {
-        return byte_cycles(first);
+        return byte_cycles(first).0;
     }
     if version == 0 {
         return ZERO_CYCLES;
     }
-    three_bytes(bytes, i + 1) * long_unit()
+    three_bytes(bytes, i + 1) * long_unit().0
 }
 
 // ---- Units
 
 // The cycles of as many units as one byte counts.
-fn byte_cycles(units: u8) -> u32
-    ensures { λ r. ⌜ r ≡ units * unitCycles ⌝ }
+fn byte_cycles(units: u8) -> Cycles
+    ensures { λ r. ⌜ r .0 ≡ units * unitCycles ⌝ }
 {
     let InCycles::Fits(c) = pulse::cycles_of(Units(units as u32)) else {
-        return 0;
+        return Cycles(0);
     };
-    c.0
+    c
 }
 
 // The units of a duration that one byte counts; 0 where it has no such form.
@@ -259,9 +261,9 @@ fn byte_units(duration: u32) -> u8
     }
 }
 
-// The cycles to one count of the long form: those of one unit.
-fn long_unit() -> u32
-    ensures { λ r. ⌜ r ≡ longUnit ⌝ }
+// The cycles that one count of the long form stands for: those of one unit.
+fn long_unit() -> Cycles
+    ensures { λ r. ⌜ r .0 ≡ longUnit ⌝ }
 {
     byte_cycles(1)
 }
@@ -294,19 +296,19 @@ fn form_of(version: u8, duration: u32) -> Form
 fn long_form(duration: u32) -> Form
     ensures { λ r. ⌜ formBytes r ≡ longForm duration ⌝ }
 {
-    let unit = long_unit();
+    let unit = long_unit().0;
     if duration % unit != 0 {
         return Form::Missing;
     }
     let count = duration / unit;
-    if (count as usize) < LONG_COUNTS {
+    if (count as usize) < THREE_BYTE_VALUES {
         return Form::Long(count);
     }
     Form::Missing
 }
 
 // How many bytes a form has.
-fn form_bytes(form: Form) -> usize
+fn form_length(form: Form) -> usize
     ensures { λ r. ⌜ r ≡ length (formBytes form) ⌝ }
 {
     match form {
@@ -319,12 +321,12 @@ fn form_bytes(form: Form) -> usize
 // How many data bytes the durations take, or the first that has no form.
 fn measure_data(version: u8, durations: &[u32]) -> Put
     requires { ⌜ length (now durations) ≤ 1048576 ⌝ }
-    ensures { λ r. ⌜ putAnswer r ≡ mapped length (measured version (now (durations .entry))) ⌝ }
+    ensures { λ r. ⌜ putAnswer r ≡ mapped length (dataOf version (now (durations .entry))) ⌝ }
 {
     let mut i: usize = 0;
     let mut n: usize = 0;
     while i < durations.len() {
-        let width = form_bytes(form_of(version, durations[i]));
+        let width = form_length(form_of(version, durations[i]));
         if width == 0 {
             return Put::Refused(refusal::at(Reason::NoTapForm, i));
         }
@@ -338,7 +340,7 @@ fn measure_data(version: u8, durations: &[u32]) -> Put
 fn write_data(version: u8, durations: &[u32], n: usize, out: &mut [u8]) -> Put
     requires { ⌜ n ≡ length (tapData version (now durations)) ⌝ }
     requires { ⌜ n ≤ 4194304 ⌝ }
-    ensures { λ r. ⌜ Written (placed (length (now (out .entry))) version (tapData version (now (durations .entry)))) (now (out .entry)) r (now (out .exit)) ⌝ }
+    ensures { λ r. ⌜ Written (putFile (length (now (out .entry))) version (tapData version (now (durations .entry)))) (now (out .entry)) r (now (out .exit)) ⌝ }
 {
     let count = HEADER_BYTES + n;
     if out.len() < count {
@@ -371,7 +373,7 @@ fn put_data(version: u8, durations: &[u32], out: &mut [u8])
     while i < durations.len() {
         let form = form_of(version, durations[i]);
         put_form(form, out, at);
-        at = at + form_bytes(form);
+        at = at + form_length(form);
         i = i + 1;
     }
 }

@@ -111,7 +111,7 @@ put-digits-slice-write-out-2 : (t : ℕ) → put-digits-lts.Need-slice-write-out
   put-digits-below t,
   put-digits.Post,
 ) (put-digits-at t) put-digits.Post
-put-digits-slice-write-out-2 t c = 
+put-digits-slice-write-out-2 t c =
     let p = c .before .before .before in
     let e = p .before .before in
     let s = e .before .before .before in
@@ -125,7 +125,7 @@ put-digits-add-result-2 : (t : ℕ) → put-digits-lts.Need-add-result-2 (
   put-digits-below t,
   put-digits.Post,
 ) (put-digits-at t) put-digits.Post
-put-digits-add-result-2 t c = 
+put-digits-add-result-2 t c =
     let p = c .before .before .before in
     let e = p .before .before in
     let s = e .before .before .before in
@@ -150,7 +150,7 @@ put-digits-returns-3 : (t : ℕ) → put-digits-lts.Need-returns-3 (
   put-digits-below t,
   put-digits.Post,
 ) (put-digits-at t) put-digits.Post
-put-digits-returns-3 t c = 
+put-digits-returns-3 t c =
     let p = c .before .before .before in
     let e = p .before .before in
     let s = e .before .before .before in

@@ -3,10 +3,6 @@ use Rattle.listing.proofs.list_tape.Statement.{statement}
 use Rattle.listing.proofs.list_tape.Tie as tie
 use Rattle.listing.proofs.list_tape.Reads as reads
 use Rattle.listing.proofs.list_tape.Lts as lts
-use Rattle.listing.proofs.load.Reads as load-reads
-use Rattle.listing.proofs.put_listing.Reads as put-listing-reads
-use Rattle.lists.proofs.put_bytes.Reads as put-bytes-reads
-use Rattle.refusal.proofs.at.Reads as at-reads
 
 -- src/lib.rt:49:29
 slice-aggregate-load : tie.Need-slice-aggregate-load

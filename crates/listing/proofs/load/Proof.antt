@@ -3,9 +3,6 @@ use Rattle.listing.proofs.load.Statement.{statement}
 use Rattle.listing.proofs.load.Tie as tie
 use Rattle.listing.proofs.load.Reads as reads
 use Rattle.listing.proofs.load.Lts as lts
-use Rattle.file.proofs.read_file.Reads as read-file-reads
-use Rattle.refusal.proofs.at.Reads as at-reads
-use Rattle.tap.proofs.read_tap.Reads as read-tap-reads
 
 -- src/lib.rt:65:36
 at-requires : tie.Need-at-requires

@@ -7,7 +7,6 @@ use lib.ListN.{length-set}
 use Rattle.listing.proofs.LineLaws.{address-put}
 use Rattle.listing.proofs.put_address.Statement.{statement}
 use Rattle.listing.proofs.put_address.Tie as tie
-use Rattle.listing.proofs.digit_of.Reads as digit-of-reads
 
 digit-of-requires : tie.Need-digit-of-requires
 digit-of-requires c κs = search needs
@@ -55,7 +54,7 @@ same-length : tie.Need-same-length
 same-length c = search needs
 
 returns : tie.Need-returns
-returns c = 
+returns c =
     let b = c .before .before in
     let a = b .before .before .before .args in
     address-put (now (a .out)) (a .at) (a .address) (b .before .digit-of .ensures) (b .digit-of2 .ensures) (c .before .digit-of3 .ensures) (c .digit-of4 .ensures)

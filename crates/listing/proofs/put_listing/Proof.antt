@@ -38,7 +38,7 @@ shown-name-requires c κs = search needs
 
 -- src/lib.rt:89:13
 put-fields-requires : tie.Need-put-fields-requires
-put-fields-requires c κs = 
+put-fields-requires c κs =
     let n = c .before in
     let t = n .before .before .before .before .before .before .before in
     let s = n .shown-name .ensures .0 in
@@ -53,7 +53,7 @@ same-length c = search needs
 -- src/lib.rt:80:1
 returns : tie.Need-returns
 unfolding ascii
-returns c = 
+returns c =
     let r = c .before .before in
     let k = r .before .before .before in
     let t = k .before .before .before .before in
@@ -66,7 +66,7 @@ same-length-2 c = search needs
 -- src/lib.rt:80:1
 returns-2 : tie.Need-returns-2
 unfolding ascii
-returns-2 c = 
+returns-2 c =
     let r = c .before .before in
     let n = r .before .before in
     let k = n .before .before .before in

@@ -7,7 +7,6 @@ use lib.ListN.{length}
 use Rattle.listing.proofs.LineLaws.{NamePut, name-begun, name-next, name-done}
 use Rattle.listing.proofs.put_name.Statement.{statement}
 use Rattle.listing.proofs.put_name.Tie as tie
-use Rattle.listing.proofs.printed_as.Reads as printed-as-reads
 
 abbrev Inv-loop : tie.InvT-loop
 Inv-loop name out₀ at i₀ out i = (i ≤ length name) × NamePut out₀ at name out i
@@ -37,7 +36,7 @@ loop-less : tie.Need-loop-less Inv-loop μ-loop
 loop-less c = search needs
 
 loop-again : tie.Need-loop-again Inv-loop μ-loop
-loop-again c = 
+loop-again c =
     let h = c .before .before .before in
     let a = h .before .before .before .args in
     (omega arith, name-next (now (a .out)) (a .at) (now (a .name)) (h .loop .inv .1) (c .before .before .loop-test .taken) (c .printed-as .ensures))
@@ -49,7 +48,7 @@ same-length : tie.Need-same-length Inv-loop μ-loop
 same-length c = search needs
 
 returns : tie.Need-returns Inv-loop μ-loop
-returns c = 
+returns c =
     let h = c .before in
     let a = h .before .before .before .args in
     name-done (now (a .out)) (a .at) (now (a .name)) (h .loop .inv .1) (c .loop-test .left)

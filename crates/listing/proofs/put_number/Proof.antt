@@ -5,20 +5,19 @@ use borrow.Author.Needs.{needs}
 use Rattle.listing.proofs.LineLaws.{append-one, append-length, append-room, width-digits}
 use Rattle.listing.proofs.put_number.Statement.{statement}
 use Rattle.listing.proofs.put_number.Tie as tie
-use Rattle.listing.proofs.put_digits.Reads as put-digits-reads
 
 put-digits-requires : tie.Need-put-digits-requires
 put-digits-requires c κs = search needs
 
 slice-write-out : tie.Need-slice-write-out
-slice-write-out c = 
+slice-write-out c =
     let d = c .before .before in
     let s = d .before .before .before in
     let r = append-room (d .put-digits .ensures) 20 1 (width-digits 20 (s .args .n)) (omega arith) in
     omega arith
 
 add-result : tie.Need-add-result
-add-result c = 
+add-result c =
     let d = c .before .before in
     let s = d .before .before .before in
     let r = append-room (d .put-digits .ensures) 20 1 (width-digits 20 (s .args .n)) (omega arith) in

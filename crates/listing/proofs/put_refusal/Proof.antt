@@ -61,7 +61,7 @@ same-length c = search needs
 
 returns : tie.Need-returns
 unfolding ascii
-returns c = 
+returns c =
     let p = c .before .before in
     let b = block-of p in
     let n = number-of b in

@@ -7,7 +7,6 @@ use denote.Ref.{now}
 use Rattle.lists.proofs.BufferLaws.{put-room}
 use Rattle.listing.proofs.put_text.Statement.{statement}
 use Rattle.listing.proofs.put_text.Tie as tie
-use Rattle.lists.proofs.put_bytes.Reads as put-bytes-reads
 
 put-bytes-requires : tie.Need-put-bytes-requires
 put-bytes-requires c κs = search needs
@@ -19,7 +18,7 @@ same-length : tie.Need-same-length
 same-length c = search needs
 
 returns : tie.Need-returns
-returns c = 
+returns c =
     let p = c .before .before in
     let a = p .before .before .before .before .args in
     record { put = p .put-bytes .ensures ∙ sym (put-room (now (a .out)) (a .at) (now (a .text)) (omega arith)); stop = refl }

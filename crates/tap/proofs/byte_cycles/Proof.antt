@@ -5,7 +5,6 @@ use borrow.Author.Needs.{needs}
 use Rattle.tap.proofs.Converting.{never-too-long, byte-fits}
 use Rattle.tap.proofs.byte_cycles.Statement.{statement}
 use Rattle.tap.proofs.byte_cycles.Tie as tie
-use Rattle.pulse.proofs.cycles_of.Reads as cycles-of-reads
 
 cycles-of-requires : tie.Need-cycles-of-requires
 cycles-of-requires c κs = search needs

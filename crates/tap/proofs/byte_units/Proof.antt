@@ -4,7 +4,6 @@ use borrow.Author.Needs.{needs}
 use Rattle.tap.proofs.Converting.{between, few, many}
 use Rattle.tap.proofs.byte_units.Statement.{statement}
 use Rattle.tap.proofs.byte_units.Tie as tie
-use Rattle.pulse.proofs.units_of.Reads as units-of-reads
 
 units-of-requires : tie.Need-units-of-requires
 units-of-requires c κs = search needs

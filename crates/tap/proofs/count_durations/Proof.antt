@@ -8,8 +8,6 @@ use Rattle.tap.proofs.DataLaws.{width-pos}
 use Rattle.tap.proofs.Decoding.{Counted, count-begun, count-next, count-cut, count-done}
 use Rattle.tap.proofs.count_durations.Statement.{statement}
 use Rattle.tap.proofs.count_durations.Tie as tie
-use Rattle.refusal.proofs.at.Reads as at-reads
-use Rattle.tap.proofs.form_width.Reads as form-width-reads
 
 abbrev Inv-loop : tie.InvT-loop
 Inv-loop version bytes i₀ count₀ i count = Counted version bytes i count

@@ -6,8 +6,6 @@ use borrow.Author.Needs.{needs}
 use Rattle.tap.proofs.FormLaws.{form-units, form-long, form-zero, form-missing}
 use Rattle.tap.proofs.form_of.Statement.{statement}
 use Rattle.tap.proofs.form_of.Tie as tie
-use Rattle.tap.proofs.byte_units.Reads as byte-units-reads
-use Rattle.tap.proofs.long_form.Reads as long-form-reads
 
 byte-units-requires : tie.Need-byte-units-requires
 byte-units-requires c κs = search needs

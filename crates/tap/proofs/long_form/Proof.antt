@@ -6,7 +6,6 @@ use borrow.Author.Needs.{needs}
 use Rattle.tap.proofs.FormLaws.{long-between, long-fits, long-over}
 use Rattle.tap.proofs.long_form.Statement.{statement}
 use Rattle.tap.proofs.long_form.Tie as tie
-use Rattle.tap.proofs.long_unit.Reads as long-unit-reads
 
 long-unit-requires : tie.Need-long-unit-requires
 long-unit-requires c κs = search needs

@@ -1,4 +1,4 @@
--- `tap::measure_data` meets its contract. The invariant: with those measured, the durations left give all data bytes and the first without a form.
+-- `tap::measure_data` meets its contract. The invariant: with those dataOf, the durations left give all data bytes and the first without a form.
 use Prim.Native.Nat.{_-_}
 use native.Mathlib.Omega.{arith}
 use mathlib.Core.Path.{ap, _∙_}
@@ -9,9 +9,6 @@ use Rattle.tap.proofs.FormLaws.{width-form}
 use Rattle.tap.proofs.Writing.{Measured, measure-begun, measure-next, measure-wrong, measure-done}
 use Rattle.tap.proofs.measure_data.Statement.{statement}
 use Rattle.tap.proofs.measure_data.Tie as tie
-use Rattle.refusal.proofs.at.Reads as at-reads
-use Rattle.tap.proofs.form_bytes.Reads as form-bytes-reads
-use Rattle.tap.proofs.form_of.Reads as form-of-reads
 
 abbrev Inv-loop : tie.InvT-loop
 Inv-loop version durations i₀ n₀ i n = Measured version durations i n
@@ -31,8 +28,8 @@ shared-slice-read-form-of c = search needs
 form-of-requires : tie.Need-form-of-requires Inv-loop μ-loop
 form-of-requires c κs = search needs
 
-form-bytes-requires : tie.Need-form-bytes-requires Inv-loop μ-loop
-form-bytes-requires c κs = search needs
+form-length-requires : tie.Need-form-length-requires Inv-loop μ-loop
+form-length-requires c κs = search needs
 
 at-requires : tie.Need-at-requires Inv-loop μ-loop
 at-requires c κs = search needs
@@ -44,7 +41,7 @@ returns c =
     let f = b .before in
     let h = f .before .before .before in
     let a = h .before .before .args in
-    measure-wrong (a .version) (now (a .durations)) (h .loop .inv) (f .before .before .loop-test .taken) (b .form-bytes .ensures ∙ ap length (f .form-of .ensures))
+    measure-wrong (a .version) (now (a .durations)) (h .loop .inv) (f .before .before .loop-test .taken) (b .form-length .ensures ∙ ap length (f .form-of .ensures))
     (t .if1 .taken) (c .at .ensures)
 
 add-n : tie.Need-add-n Inv-loop μ-loop
@@ -53,7 +50,7 @@ add-n c =
     let f = b .before in
     let h = f .before .before .before in
     let a = h .before .before .args in
-    let w = b .form-bytes .ensures ∙ ap length (f .form-of .ensures) in
+    let w = b .form-length .ensures ∙ ap length (f .form-of .ensures) in
     omega (arith, w, width-form (a .version) (getD (now (a .durations)) (h .loop .i) 0), h .loop .inv .few)
 
 add-i : tie.Need-add-i Inv-loop μ-loop
@@ -68,7 +65,7 @@ loop-again c =
     let f = b .before in
     let h = f .before .before .before in
     let a = h .before .before .args in
-    measure-next (a .version) (now (a .durations)) (h .loop .inv) (f .before .before .loop-test .taken) (b .form-bytes .ensures ∙ ap length (f .form-of .ensures)) (c .if1 .left)
+    measure-next (a .version) (now (a .durations)) (h .loop .inv) (f .before .before .loop-test .taken) (b .form-length .ensures ∙ ap length (f .form-of .ensures)) (c .if1 .left)
 
 returns-2 : tie.Need-returns-2 Inv-loop μ-loop
 returns-2 c =
@@ -86,7 +83,7 @@ measure-data-spec =
     mul-form-of
     shared-slice-read-form-of
     form-of-requires
-    form-bytes-requires
+    form-length-requires
     at-requires
     returns
     add-n

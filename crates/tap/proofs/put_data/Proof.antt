@@ -7,9 +7,6 @@ use lib.ListN.{length}
 use Rattle.tap.proofs.Writing.{DataPut, data-room, data-step, data-done}
 use Rattle.tap.proofs.put_data.Statement.{statement}
 use Rattle.tap.proofs.put_data.Tie as tie
-use Rattle.tap.proofs.form_bytes.Reads as form-bytes-reads
-use Rattle.tap.proofs.form_of.Reads as form-of-reads
-use Rattle.tap.proofs.put_form.Reads as put-form-reads
 
 abbrev Inv-loop : tie.InvT-loop
 Inv-loop version durations out₀ i₀ at₀ out i at = DataPut version durations out₀ out i at
@@ -36,8 +33,8 @@ put-form-requires c κs =
     let a = h .before .before .before .args in
     data-room (a .version) (now (a .durations)) (now (a .out)) (h .loop .inv) (f .before .before .loop-test .taken) (f .form-of .ensures)
 
-form-bytes-requires : tie.Need-form-bytes-requires Inv-loop μ-loop
-form-bytes-requires c κs = search needs
+form-length-requires : tie.Need-form-length-requires Inv-loop μ-loop
+form-length-requires c κs = search needs
 
 add-at : tie.Need-add-at Inv-loop μ-loop
 add-at c =
@@ -45,7 +42,7 @@ add-at c =
     let h = f .before .before .before in
     let a = h .before .before .before .args in
     let r = data-room (a .version) (now (a .durations)) (now (a .out)) (h .loop .inv) (f .before .before .loop-test .taken) (f .form-of .ensures) in
-    omega (arith, c .form-bytes .ensures)
+    omega (arith, c .form-length .ensures)
 
 add-i : tie.Need-add-i Inv-loop μ-loop
 add-i c = search needs
@@ -60,7 +57,7 @@ loop-again c =
     let h = f .before .before .before in
     let a = h .before .before .before .args in
     data-step (a .version) (now (a .durations)) (now (a .out)) (h .loop .inv) (f .before .before .loop-test .taken) (f .form-of .ensures) (p .put-form .ensures)
-    (c .form-bytes .ensures)
+    (c .form-length .ensures)
 
 same-length : tie.Need-same-length Inv-loop μ-loop
 same-length c = search needs
@@ -82,7 +79,7 @@ put-data-spec =
     shared-slice-read-form-of
     form-of-requires
     put-form-requires
-    form-bytes-requires
+    form-length-requires
     add-at
     add-i
     loop-less

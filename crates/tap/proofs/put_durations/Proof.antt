@@ -8,8 +8,6 @@ use Rattle.tap.proofs.DataLaws.{width-pos}
 use Rattle.tap.proofs.Decoding.{DurationsPut, durations-step, durations-room, durations-next, durations-done}
 use Rattle.tap.proofs.put_durations.Statement.{statement}
 use Rattle.tap.proofs.put_durations.Tie as tie
-use Rattle.tap.proofs.duration_at.Reads as duration-at-reads
-use Rattle.tap.proofs.form_width.Reads as form-width-reads
 
 abbrev Inv-loop : tie.InvT-loop
 Inv-loop version bytes out₀ i₀ k₀ out i k = DurationsPut version bytes out₀ out i k

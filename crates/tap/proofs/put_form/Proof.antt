@@ -6,7 +6,6 @@ use borrow.Author.Needs.{needs}
 use Rattle.lists.specs.Text.{lowFirst}
 use Rattle.tap.proofs.put_form.Statement.{statement}
 use Rattle.tap.proofs.put_form.Tie as tie
-use Rattle.tap.proofs.put_long.Reads as put-long-reads
 
 enum-known-form : tie.Need-enum-known-form
 enum-known-form c = search needs

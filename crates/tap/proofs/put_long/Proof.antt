@@ -7,7 +7,6 @@ use lib.ListN.{length-set}
 use Rattle.tap.proofs.Writing.{long-put}
 use Rattle.tap.proofs.put_long.Statement.{statement}
 use Rattle.tap.proofs.put_long.Tie as tie
-use Rattle.tap.proofs.low_byte.Reads as low-byte-reads
 
 slice-write-out : tie.Need-slice-write-out
 slice-write-out c = search needs

@@ -5,9 +5,6 @@ use denote.Ref.{now}
 use Rattle.tap.proofs.Decoding.{data-cut, data-sound, data-count, data-no-room, data-whole}
 use Rattle.tap.proofs.read_data.Statement.{statement}
 use Rattle.tap.proofs.read_data.Tie as tie
-use Rattle.refusal.proofs.at.Reads as at-reads
-use Rattle.tap.proofs.count_durations.Reads as count-durations-reads
-use Rattle.tap.proofs.put_durations.Reads as put-durations-reads
 
 count-durations-requires : tie.Need-count-durations-requires
 count-durations-requires c κs = search needs

@@ -7,9 +7,6 @@ use denote.Ref.{now}
 use Rattle.tap.proofs.Heading.{version-letters, version-long, version-new, version-count, version-sound}
 use Rattle.tap.proofs.read_header.Statement.{statement}
 use Rattle.tap.proofs.read_header.Tie as tie
-use Rattle.refusal.proofs.at.Reads as at-reads
-use Rattle.tap.proofs.wrong_count.Reads as wrong-count-reads
-use Rattle.tap.proofs.wrong_letters.Reads as wrong-letters-reads
 
 wrong-letters-requires : tie.Need-wrong-letters-requires
 wrong-letters-requires c κs = search needs

@@ -5,8 +5,6 @@ use denote.Ref.{now}
 use Rattle.tap.proofs.Decoding.{header-wrong, header-long, header-sound}
 use Rattle.tap.proofs.read_tap.Statement.{statement}
 use Rattle.tap.proofs.read_tap.Tie as tie
-use Rattle.tap.proofs.read_data.Reads as read-data-reads
-use Rattle.tap.proofs.read_header.Reads as read-header-reads
 
 read-header-requires : tie.Need-read-header-requires
 read-header-requires c κs = search needs

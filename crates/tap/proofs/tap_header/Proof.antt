@@ -5,7 +5,6 @@ use Rattle.lists.specs.Text.{ascii, lowFirst}
 use Rattle.tap.specs.Tap.{tapHeader}
 use Rattle.tap.proofs.tap_header.Statement.{statement}
 use Rattle.tap.proofs.tap_header.Tie as tie
-use Rattle.tap.proofs.low_byte.Reads as low-byte-reads
 
 array-write-header : tie.Need-array-write-header
 array-write-header c = search needs

@@ -6,7 +6,6 @@ use denote.Ref.{now}
 use Rattle.tap.proofs.DataLaws.{low-three}
 use Rattle.tap.proofs.three_bytes.Statement.{statement}
 use Rattle.tap.proofs.three_bytes.Tie as tie
-use Rattle.tap.proofs.wide.Reads as wide-reads
 
 shared-slice-read-wide : tie.Need-shared-slice-read-wide
 shared-slice-read-wide c = search needs
@@ -32,20 +31,23 @@ shared-slice-read-wide-3 c = search needs
 wide-requires-3 : tie.Need-wide-requires-3
 wide-requires-3 c κs = search needs
 
-mul-result : tie.Need-mul-result
-mul-result c = search needs
+mul-n : tie.Need-mul-n
+mul-n c = search needs
 
-add-result : tie.Need-add-result
-add-result c = search needs
+add-n : tie.Need-add-n
+add-n c = search needs
 
-mul-result-2 : tie.Need-mul-result-2
-mul-result-2 c = search needs
+mul-n-2 : tie.Need-mul-n-2
+mul-n-2 c = search needs
 
-add-result-2 : tie.Need-add-result-2
-add-result-2 c = search needs
+add-n-2 : tie.Need-add-n-2
+add-n-2 c = search needs
+
+cast-result : tie.Need-cast-result
+cast-result c = search needs
 
 returns : tie.Need-returns
-returns c =
+returns c = 
     let m = c .before .before in
     let l = m .before .before in
     let a = l .before .before .before .args in
@@ -64,8 +66,9 @@ three-bytes-spec =
     add-wide-2
     shared-slice-read-wide-3
     wide-requires-3
-    mul-result
-    add-result
-    mul-result-2
-    add-result-2
+    mul-n
+    add-n
+    mul-n-2
+    add-n-2
+    cast-result
     returns)

@@ -3,13 +3,9 @@ use Prim.Native.Nat.{_-_}
 use borrow.Author.Needs.{needs}
 use denote.Ref.{now}
 use Rattle.tap.specs.Tap.{tapData}
-use Rattle.tap.proofs.Writing.{placed-no-room, placed-whole}
+use Rattle.tap.proofs.Writing.{file-no-room, file-whole}
 use Rattle.tap.proofs.write_data.Statement.{statement}
 use Rattle.tap.proofs.write_data.Tie as tie
-use Rattle.lists.proofs.put_bytes.Reads as put-bytes-reads
-use Rattle.refusal.proofs.at.Reads as at-reads
-use Rattle.tap.proofs.put_data.Reads as put-data-reads
-use Rattle.tap.proofs.tap_header.Reads as tap-header-reads
 
 add-count : tie.Need-add-count
 add-count c = search needs
@@ -22,7 +18,7 @@ returns c =
     let t = c .before in
     let s = t .before .before .before in
     let a = s .args in
-    placed-no-room (now (a .out)) (a .version) (tapData (a .version) (now (a .durations))) (s .pre .0) (t .if1 .taken) (c .at .ensures)
+    file-no-room (now (a .out)) (a .version) (tapData (a .version) (now (a .durations))) (s .pre .0) (t .if1 .taken) (c .at .ensures)
 
 tap-header-requires : tie.Need-tap-header-requires
 tap-header-requires c κs = search needs
@@ -47,7 +43,7 @@ returns-2 c =
     let t = h .before in
     let s = t .before .before .before in
     let a = s .args in
-    placed-whole (now (a .out)) (a .version) (tapData (a .version) (now (a .durations))) (s .pre .0) (t .if1 .left) (h .tap-header .ensures) (b .put-bytes .ensures) (d .put-data .ensures)
+    file-whole (now (a .out)) (a .version) (tapData (a .version) (now (a .durations))) (s .pre .0) (t .if1 .left) (h .tap-header .ensures) (b .put-bytes .ensures) (d .put-data .ensures)
 
 pub write-data-spec : {M : Type 1} → statement M
 write-data-spec =

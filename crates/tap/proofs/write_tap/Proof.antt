@@ -7,9 +7,6 @@ use Rattle.tap.proofs.FormLaws.{width-data}
 use Rattle.tap.proofs.Writing.{too-many, too-new, without-form, data-bytes, all-written}
 use Rattle.tap.proofs.write_tap.Statement.{statement}
 use Rattle.tap.proofs.write_tap.Tie as tie
-use Rattle.refusal.proofs.at.Reads as at-reads
-use Rattle.tap.proofs.measure_data.Reads as measure-data-reads
-use Rattle.tap.proofs.write_data.Reads as write-data-reads
 
 at-requires : tie.Need-at-requires
 at-requires c κs = search needs

@@ -6,9 +6,6 @@ use denote.Ref.{now}
 use Rattle.tap.proofs.Heading.{not-reserved, same-count}
 use Rattle.tap.proofs.wrong_count.Statement.{statement}
 use Rattle.tap.proofs.wrong_count.Tie as tie
-use Rattle.check.proofs.same.Reads as same-reads
-use Rattle.tap.proofs.three_bytes.Reads as three-bytes-reads
-use Rattle.tap.proofs.wide.Reads as wide-reads
 
 sub-same : tie.Need-sub-same
 sub-same c = search needs
@@ -26,7 +23,7 @@ same-requires : tie.Need-same-requires
 same-requires c κs = search needs
 
 returns : tie.Need-returns
-returns c =
+returns c = 
     let s = c .before in
     let f = s .before .before .before .before in
     not-reserved (now (f .args .file)) (omega arith) (s .same .ensures) (c .if1 .taken)
@@ -46,9 +43,6 @@ shared-slice-read-wide c = search needs
 wide-requires : tie.Need-wide-requires
 wide-requires c κs = search needs
 
-cast-high : tie.Need-cast-high
-cast-high c = search needs
-
 mul-result : tie.Need-mul-result
 mul-result c = search needs
 
@@ -59,7 +53,7 @@ sub-result : tie.Need-sub-result
 sub-result c = search needs
 
 returns-2 : tie.Need-returns-2
-returns-2 c =
+returns-2 c = 
     let b = c .before .before in
     let s = b .before .before in
     let f = s .before .before .before .before in
@@ -80,7 +74,6 @@ wrong-count-spec =
     add-wide
     shared-slice-read-wide
     wide-requires
-    cast-high
     mul-result
     add-result
     sub-result

@@ -9,7 +9,6 @@ use Rattle.lists.specs.Text.{ascii}
 use Rattle.tap.proofs.Heading.{too-short, same-letters}
 use Rattle.tap.proofs.wrong_letters.Statement.{statement}
 use Rattle.tap.proofs.wrong_letters.Tie as tie
-use Rattle.check.proofs.same.Reads as same-reads
 
 returns : tie.Need-returns
 returns c = too-short (now (c .before .before .args .file)) (c .if1 .taken)

@@ -1,9 +1,9 @@
--- `tap::form_bytes` meets its contract, case by case.
+-- `tap::form_length` meets its contract, case by case.
 use Prim.Native.Nat.{_-_}
 use borrow.Author.Needs.{needs}
 use Rattle.lists.specs.Text.{lowFirst}
-use Rattle.tap.proofs.form_bytes.Statement.{statement}
-use Rattle.tap.proofs.form_bytes.Tie as tie
+use Rattle.tap.proofs.form_length.Statement.{statement}
+use Rattle.tap.proofs.form_length.Tie as tie
 
 enum-told : tie.Need-enum-told
 enum-told c = search needs
@@ -24,6 +24,6 @@ returns-2 c = rw (c .enum-told2 .given .1)
 returns-3 : tie.Need-returns-3
 returns-3 c = search needs
 
-pub form-bytes-spec : {M : Type 1} → statement M
-form-bytes-spec =
+pub form-length-spec : {M : Type 1} → statement M
+form-length-spec =
     tie.close (tie.spec enum-told enum-told-2 enum-told-3 returns returns-2 returns-3)
