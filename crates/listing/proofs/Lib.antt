@@ -1,1 +1,2 @@
+mod Listed
 pub mod LineLaws

@@ -17,6 +17,7 @@ use Rattle.refusal.specs.declared.Refusal.{Refusal}
 use Rattle.refusal.specs.Refusal.{numberOf}
 use Rattle.header.specs.declared.Fields.{Fields}
 use Rattle.header.specs.Header.{shownName}
+use Rattle.header.proofs.HeaderLaws.{width-shown}
 use Rattle.file.specs.declared.Loaded.{Loaded}
 use Rattle.file.specs.declared.FileAnswer.{FileAnswer}
 use Rattle.file.specs.declared.FileAnswer.the-variants.{Accepted, Refused}
@@ -143,3 +144,26 @@ module _ {out : List ℕ} {p q : ℕ} {one two : List ℕ} (a : Appended out 0 h
   pub file-listed : {l : Loaded} {name : List ℕ} → answer ≡ Accepted l → name ≡ shownName header → Appended one p (fieldsLine (l .fields) name) q two
       → Appended out 0 (answerText answer header) q two
   file-listed e n b = rw e (append-then a (rw n at b))
+
+-- ---- How long a listing is
+
+width-refusal : (number block place : ℕ) → length (refusalLine number block place) ≤ 71
+unfolding refusalLine ascii
+width-refusal number block place =
+    let a = width-number number 0x20 in
+    let b = width-number block 0x20 in
+    let c = width-number place 0x0a in
+    simp length-append (omega (arith, rw length-append at a, rw length-append at b, rw length-append at c))
+
+width-fields : (f : Fields) (name : List ℕ) → length name ≤ 16 → length (fieldsLine f name) ≤ 69
+unfolding fieldsLine hexadecimal
+width-fields f name h =
+    let a = width-digits 20 (f .kind) in
+    let b = width-digits 20 (dataBytes f) in
+    let c = length-map name printed in
+    simp length-append (omega arith)
+
+pub width-text : (a : FileAnswer) (header : List ℕ) → length (answerText a header) ≤ 97
+unfolding ascii
+width-text (Accepted l) header = simp length-append (omega (arith, width-fields (l .fields) (shownName header) (width-shown header)))
+width-text (Refused r) header = simp length-append (omega (arith, width-refusal (numberOf (r .reason)) (r .block) (r .place)))

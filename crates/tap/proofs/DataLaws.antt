@@ -138,7 +138,7 @@ unfolding fitting
 room-fits room t h = rw (le-ltb room (length (t .durations)) h)
 
 module _ (file : List ℕ) where
-  width-tap : (t : Tap) → tapOf file ≡ accepted t → length (t .durations) ≤ length file - 20
+  pub width-tap : (t : Tap) → tapOf file ≡ accepted t → length (t .durations) ≤ length file - 20
   unfolding tapOf
   width-tap t e =
       let h = then-accepted (tapVersion file) (λ v. mapped (tapWith v) (durationsIn v 0 (drop 20 file))) t e in

@@ -1,0 +1,135 @@
+-- What loading a file and listing it come to, by what their parts answered.
+use Prim.Native.Nat.{ℕ, _+_, _-_, _≤_, _<_}
+use native.Mathlib.Nat.{zero-add}
+use native.Mathlib.Omega.{arith}
+use mathlib.Core.Path.{_≡_, refl, sym, ap, ap₂, _∙_}
+use mathlib.Core.List.{List, _++_}
+use borrow.Author.Tests.{lt-ltb, le-ltb}
+use lib.Dec.{ltb}
+use lib.ListN.{length, take, replicate, length-replicate}
+use Rattle.lists.specs.Buffer.{putAt}
+use Rattle.lists.proofs.BufferLaws.{length-put, part-put, put-room, put-whole}
+use Rattle.refusal.specs.declared.Reason.the-variants.{WrongSize, NoRoom}
+use Rattle.refusal.specs.declared.Refusal.{Refusal}
+use Rattle.refusal.specs.declared.Put.the-variants.{Count, Refused as PutRefused}
+use Rattle.refusal.specs.Refusal.{Outcome, refused, accepted, refusalAt, told, mapped, andThen, puts, Written}
+use Rattle.refusal.proofs.OutcomeLaws.{mapped-refused, told-refused, puts-refused, accepted-next, then-accepted, mapped-told, mapped-accepted, written-refused, written-accepted}
+use Rattle.pulse.specs.Pulse.{fixed, classes}
+use Rattle.header.specs.Header.{shownName}
+use Rattle.file.specs.declared.Loaded.{Loaded}
+use Rattle.file.specs.declared.FileAnswer.{FileAnswer}
+use Rattle.file.specs.declared.FileAnswer.the-variants.{Accepted, Refused}
+use Rattle.file.specs.Reading.{FileRead, loadedOf, headerOf, readFile, fileAnswer, Reads}
+use Rattle.file.proofs.FileLaws.{Whole, file-whole}
+use Rattle.tap.specs.declared.TapInfo.{TapInfo}
+use Rattle.tap.specs.declared.TapAnswer.{TapAnswer}
+use Rattle.tap.specs.declared.TapAnswer.the-variants.{Accepted as Held, Refused as NotHeld}
+use Rattle.tap.specs.Reading.{Tap, infoOf, durationsOf, tapOf, readTap, tapAnswer}
+use Rattle.tap.specs.Reading as tap
+use Rattle.tap.proofs.DataLaws.{read-enough, width-tap}
+use Rattle.listing.specs.Listing.{fileIn, fileLine, line, heading, listing, listTape}
+use Rattle.listing.specs.Lines.{Appended, fieldsLine, answerLine, answerText}
+
+-- ---- Loading
+
+-- the answer, and the header that is kept
+abbrev pub Kept : (o : Outcome FileRead) (h : List ℕ) (r : FileAnswer) (h′ : List ℕ) → Type 0
+Kept o h r h′ = (fileAnswer r ≡ mapped loadedOf o) × (h′ ≡ putAt h 0 (puts (mapped headerOf o)))
+
+kept-refused : (o : Outcome FileRead) (h : List ℕ) {r s : Refusal} → o ≡ told s → r ≡ s → Kept o h (Refused r) h
+kept-refused o h {s = s} e q = (told-refused s e loadedOf q, puts-refused s h (mapped-refused s e headerOf))
+
+module _ (file h : List ℕ) where
+  pub too-long : {r : Refusal} → 16384 < length file → r ≡ refusalAt WrongSize 0 → Kept (fileIn file) h (Refused r) h
+  unfolding fileIn
+  too-long l = kept-refused (fileIn file) h (rw (lt-ltb 16384 (length file) l))
+
+  module _ (short : length file ≤ 16384) where
+    in-tap : fileIn file ≡ andThen (tapOf file) (λ t. readFile (classes fixed (t .durations)) 192 8192 0)
+    unfolding fileIn
+    in-tap = rw (le-ltb 16384 (length file) short)
+
+    enough : readTap 16364 file ≡ tapOf file
+    enough = read-enough file 16364 (omega arith)
+
+    module _ {a : TapAnswer} {strip : List ℕ} (e : tap.Reads (readTap 16364 file) (replicate 16364 0) a strip) where
+      pub no-tape : {r : Refusal} → a ≡ NotHeld r → Kept (fileIn file) h (Refused r) h
+      no-tape {r} q =
+          let t : tapOf file ≡ told r = sym enough ∙ mapped-told infoOf (readTap 16364 file) r (sym (ap tapAnswer q) ∙ e .0) in
+          kept-refused (fileIn file) h {s = r} (in-tap ∙ ap (λ o. andThen o (λ t. readFile (classes fixed (t .durations)) 192 8192 0)) t) refl
+
+      module _ {t : TapInfo} (q : a ≡ Held t) where
+        held : (x : Tap) × (readTap 16364 file ≡ accepted x) × (infoOf x ≡ t)
+        held = mapped-accepted infoOf (readTap 16364 file) (sym (ap tapAnswer q) ∙ e .0)
+
+        strip-put : strip ≡ putAt (replicate 16364 0) 0 (held .0 .durations)
+        strip-put = e .1 ∙ ap (λ o. putAt (replicate 16364 0) 0 (puts (mapped durationsOf o))) (held .1)
+
+        count-is : t .count ≡ length (held .0 .durations)
+        count-is = sym (ap (λ i. i .count) (held .2))
+
+        few : length (held .0 .durations) ≤ 16364
+        few = let w = width-tap file (held .0) (sym enough ∙ held .1) in omega arith
+
+        pub count-within : t .count ≤ length strip
+        count-within =
+            let l = ap length strip-put ∙ length-put (replicate 16364 0) 0 (held .0 .durations) ∙ length-replicate {A = ℕ} 16364 0 in
+            let f = few in
+            omega (arith, count-is)
+
+        front : take (t .count) strip ≡ held .0 .durations
+        front =
+            let f = few in
+            let l = length-replicate {A = ℕ} 16364 0 in
+            ap₂ take count-is strip-put ∙ part-put (replicate 16364 0) 0 (held .0 .durations) (omega arith)
+
+        read-is : readFile (classes fixed (take (t .count) strip)) 192 8192 0 ≡ fileIn file
+        read-is = rw front (sym (in-tap ∙ ap (λ o. andThen o (λ u. readFile (classes fixed (u .durations)) 192 8192 0)) (sym enough ∙ held .1)))
+
+        pub loaded : (r : FileAnswer) (b : List ℕ) {h′ b′ : List ℕ} → length h ≡ 192 → length b ≡ 8192
+            → Reads (readFile (classes fixed (take (t .count) strip)) (length h) (length b) 0) h b r h′ b′ → Kept (fileIn file) h r h′
+        loaded r b l m s = let s′ = rw (l, m, read-is) at s in (s′ .0, s′ .1 .0)
+
+-- ---- Listing
+
+-- the line of an accepted file, by its fields and its header
+file-line : (f : FileRead) → Whole f → fileLine f ≡ fieldsLine (f .loaded .fields) (shownName (f .header))
+unfolding fileLine fieldsLine
+file-line f w = rw (w .bytes)
+
+file-in : (file : List ℕ) (f : FileRead) → fileIn file ≡ accepted f → Whole f
+unfolding fileIn
+file-in file f e =
+    let s = accepted-next (ltb 16384 (length file)) (refusalAt WrongSize 0) _ f e in
+    let t = then-accepted (tapOf file) (λ u. readFile (classes fixed (u .durations)) 192 8192 0) f (s .1) in
+    file-whole (classes fixed (t .0 .durations)) 192 8192 f 0 (t .2)
+
+line-told : (file h : List ℕ) → length h ≡ 192 → (a : FileAnswer) (h′ : List ℕ) → Kept (fileIn file) h a h′ → line (fileIn file) ≡ answerLine a h′
+line-told file h l (Refused r) h′ k = ap line (mapped-told loadedOf (fileIn file) r (k .0))
+line-told file h l (Accepted x) h′ k =
+    let m = mapped-accepted loadedOf (fileIn file) (k .0) in
+    let w = file-in file (m .0) (m .1) in
+    let p : h′ ≡ m .0 .header = k .1 ∙ ap (λ o. putAt h 0 (puts (mapped headerOf o))) (m .1) ∙ put-whole h (m .0 .header) (w .header ∙ sym l) in
+    ap line (m .1) ∙ file-line (m .0) w ∙ ap (λ (y : Loaded). fieldsLine (y .fields) (shownName (m .0 .header))) (m .2)
+    ∙ ap (λ x′. fieldsLine (x .fields) (shownName x′)) (sym p)
+
+pub listing-told : (file h : List ℕ) → length h ≡ 192 → (a : FileAnswer) (h′ : List ℕ) → Kept (fileIn file) h a h′ → answerText a h′ ≡ listing file
+unfolding listing
+listing-told file h l a h′ k = ap (λ xs. heading ++ xs) (sym (line-told file h l a h′ k))
+
+module _ (file out : List ℕ) {n : ℕ} {before text told : List ℕ} (e : told ≡ listing file) (a : Appended before 0 told n text) (room : 128 ≤ length before)
+    (small : length told ≤ 128) where
+  pub text-length : n ≡ length (listing file)
+  text-length = a .stop ∙ zero-add (length told) ∙ ap length e
+
+  pub text-front : take n text ≡ listing file
+  text-front = rw (a .stop, zero-add, a .put, put-room before 0 told (omega arith)) (part-put before 0 told (omega arith)) ∙ e
+
+  pub no-room : {r : Refusal} → length out < n → r ≡ refusalAt NoRoom 0 → Written (listTape (length out) file) out (PutRefused r) out
+  unfolding listTape
+  no-room h = written-refused (listTape (length out) file) out (rw (lt-ltb (length out) (length (listing file)) (rw (← text-length) h)))
+
+  pub listed : {out′ : List ℕ} → n ≤ length out → out′ ≡ putAt out 0 (take n text) → Written (listTape (length out) file) out (Count n) out′
+  unfolding listTape
+  listed h q =
+      written-accepted (listTape (length out) file) out (rw (le-ltb (length out) (length (listing file)) (rw (← text-length) h))) (sym text-length) (q ∙ ap (putAt out 0) text-front)
