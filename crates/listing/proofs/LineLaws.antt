@@ -6,15 +6,19 @@ use native.Mathlib.Omega.{arith}
 use mathlib.Core.Path.{_≡_, refl, sym, ap, _∙_}
 use mathlib.Core.Bool.{Bool, true, false, cond}
 use mathlib.Core.List.{List, [], _∷_, _++_, map}
-use borrow.Author.Tests.{lt-ltb, le-ltb}
+use borrow.Author.Tests.{lt-ltb, le-ltb, ltb-false}
 use lib.Dec.{ltb}
 use lib.ListN.{length, drop, getD, set, length-append, length-map, drop-of-length-le}
 use lib.Seq.{sets, length-sets, drop-cons}
 use Rattle.lists.specs.Text.{ascii}
-use Rattle.lists.proofs.BufferLaws.{sets-append}
+use Rattle.lists.proofs.BufferLaws.{length-put, sets-append}
 use Rattle.lists.proofs.LoopLaws.{Putting, put-begun, put-one, put-done}
 use Rattle.refusal.specs.declared.Refusal.{Refusal}
-use Rattle.refusal.specs.Refusal.{numberOf}
+use Rattle.refusal.specs.declared.Reason.the-variants.{NoRoom}
+use Rattle.refusal.specs.declared.Put.{Put}
+use Rattle.refusal.specs.declared.Put.the-variants.{Count}
+use Rattle.refusal.specs.Refusal.{numberOf, Outcome, refused, accepted, refusalAt, puts, putAnswer, Written}
+use Rattle.refusal.proofs.OutcomeLaws.{accepted-next, mapped-accepted}
 use Rattle.header.specs.declared.Fields.{Fields}
 use Rattle.header.specs.Header.{shownName}
 use Rattle.header.proofs.HeaderLaws.{width-shown}
@@ -22,8 +26,9 @@ use Rattle.file.specs.declared.Loaded.{Loaded}
 use Rattle.file.specs.declared.FileAnswer.{FileAnswer}
 use Rattle.file.specs.declared.FileAnswer.the-variants.{Accepted, Refused}
 use Rattle.file.specs.File.{dataBytes}
-use Rattle.listing.specs.Listing.{digit, digits, decimal, hexadecimal, field, newline, printed, refusalLine, heading}
-use Rattle.listing.specs.Lines.{Appended, fieldsLine, answerText}
+use Rattle.file.specs.Reading.{FileRead}
+use Rattle.listing.specs.Listing.{digit, digits, decimal, hexadecimal, field, newline, printed, fileLine, refusalLine, line, fileIn, heading, listing, listTape}
+use Rattle.listing.specs.Lines.{Appended, answerText}
 
 -- ---- Appended
 
@@ -131,8 +136,8 @@ refusal-put number block place a e b c d = append-then (append-then (append-then
 pub fields-put : (f : Fields) (name : List ℕ) {out : List ℕ} {at p q r s t u n : ℕ} {one two three four five six : List ℕ}
     → Appended out at (field (decimal (f .kind))) p one → Appended one p (field (hexadecimal (f .start))) q two → Appended two q (field (hexadecimal (f .end))) r three
     → n ≡ dataBytes f → Appended three r (field (decimal n)) s four → Appended four s (map printed name) t five → Appended five t newline u six
-    → Appended out at (fieldsLine f name) u six
-unfolding fieldsLine
+    → Appended out at (fileLine f (dataBytes f) name) u six
+unfolding fileLine
 fields-put f name a b c e d g h = append-then (append-then (append-then (append-then (append-then a b) c) (rw e at d)) g) h
 
 -- the heading and the line of an answer
@@ -141,7 +146,7 @@ module _ {out : List ℕ} {p q : ℕ} {one two : List ℕ} (a : Appended out 0 h
       → Appended out 0 (answerText answer header) q two
   refusal-listed e b = rw e (append-then a b)
 
-  pub file-listed : {l : Loaded} {name : List ℕ} → answer ≡ Accepted l → name ≡ shownName header → Appended one p (fieldsLine (l .fields) name) q two
+  pub file-listed : {l : Loaded} {name : List ℕ} → answer ≡ Accepted l → name ≡ shownName header → Appended one p (fileLine (l .fields) (dataBytes (l .fields)) name) q two
       → Appended out 0 (answerText answer header) q two
   file-listed e n b = rw e (append-then a (rw n at b))
 
@@ -155,15 +160,37 @@ width-refusal number block place =
     let c = width-number place 0x0a in
     simp length-append (omega (arith, rw length-append at a, rw length-append at b, rw length-append at c))
 
-width-fields : (f : Fields) (name : List ℕ) → length name ≤ 16 → length (fieldsLine f name) ≤ 69
-unfolding fieldsLine hexadecimal
-width-fields f name h =
+width-file : (f : Fields) (count : ℕ) (name : List ℕ) → length name ≤ 16 → length (fileLine f count name) ≤ 69
+unfolding fileLine hexadecimal
+width-file f count name h =
     let a = width-digits 20 (f .kind) in
-    let b = width-digits 20 (dataBytes f) in
+    let b = width-digits 20 count in
     let c = length-map name printed in
     simp length-append (omega arith)
 
 pub width-text : (a : FileAnswer) (header : List ℕ) → length (answerText a header) ≤ 97
 unfolding ascii
-width-text (Accepted l) header = simp length-append (omega (arith, width-fields (l .fields) (shownName header) (width-shown header)))
+width-text (Accepted l) header = simp length-append (omega (arith, width-file (l .fields) (dataBytes (l .fields)) (shownName header) (width-shown header)))
 width-text (Refused r) header = simp length-append (omega (arith, width-refusal (numberOf (r .reason)) (r .block) (r .place)))
+
+width-line : (o : Outcome FileRead) → length (line o) ≤ 71
+width-line (refused number block place) = width-refusal number block place
+width-line (accepted f) = omega (arith, width-file (f .loaded .fields) (length (f .bytes)) (shownName (f .header)) (width-shown (f .header)))
+
+-- with room for 97 bytes every file is listed
+pub listed-enough : (room : ℕ) (file : List ℕ) → 97 ≤ room → listTape room file ≡ accepted (listing file)
+unfolding listTape listing ascii
+listed-enough room file h =
+    let w : length (listing file) ≤ 97 = simp length-append (omega (arith, width-line (fileIn file))) in
+    rw (le-ltb room (length (listing file)) (omega arith))
+
+-- the text that is put lies within the buffer
+pub listed-within : (file out : List ℕ) (a : Put) {n : ℕ} {out′ : List ℕ} → Written (listTape (length out) file) out a out′ → a ≡ Count n → n ≤ length out′
+unfolding listTape
+listed-within file out a {n} {out′} w e =
+    let m = mapped-accepted length (listTape (length out) file) (sym (ap putAnswer e) ∙ w .0) in
+    let s = accepted-next (ltb (length out) (length (listing file))) (refusalAt NoRoom 0) (accepted (listing file)) (m .0) (m .1) in
+    let q : listing file ≡ m .0 = let z = s .1 in cc in
+    let h : length (listing file) ≤ length out = ltb-false (length out) (length (listing file)) (s .0) in
+    let l : length out′ ≡ length out = ap length (w .1) ∙ length-put out 0 (puts (listTape (length out) file)) in
+    omega (arith, m .2, ap length q)

@@ -19,6 +19,7 @@ use Rattle.header.specs.Header.{shownName}
 use Rattle.file.specs.declared.Loaded.{Loaded}
 use Rattle.file.specs.declared.FileAnswer.{FileAnswer}
 use Rattle.file.specs.declared.FileAnswer.the-variants.{Accepted, Refused}
+use Rattle.file.specs.File.{dataBytes}
 use Rattle.file.specs.Reading.{FileRead, loadedOf, headerOf, readFile, fileAnswer, Reads}
 use Rattle.file.proofs.FileLaws.{Whole, file-whole}
 use Rattle.tap.specs.declared.TapInfo.{TapInfo}
@@ -28,7 +29,7 @@ use Rattle.tap.specs.Reading.{Tap, infoOf, durationsOf, tapOf, readTap, tapAnsw
 use Rattle.tap.specs.Reading as tap
 use Rattle.tap.proofs.DataLaws.{read-enough, width-tap}
 use Rattle.listing.specs.Listing.{fileIn, fileLine, line, heading, listing, listTape}
-use Rattle.listing.specs.Lines.{Appended, fieldsLine, answerLine, answerText}
+use Rattle.listing.specs.Lines.{Appended, answerLine, answerText}
 
 -- ---- Loading
 
@@ -92,11 +93,6 @@ module _ (file h : List ℕ) where
 
 -- ---- Listing
 
--- the line of an accepted file, by its fields and its header
-file-line : (f : FileRead) → Whole f → fileLine f ≡ fieldsLine (f .loaded .fields) (shownName (f .header))
-unfolding fileLine fieldsLine
-file-line f w = rw (w .bytes)
-
 file-in : (file : List ℕ) (f : FileRead) → fileIn file ≡ accepted f → Whole f
 unfolding fileIn
 file-in file f e =
@@ -110,8 +106,9 @@ line-told file h l (Accepted x) h′ k =
     let m = mapped-accepted loadedOf (fileIn file) (k .0) in
     let w = file-in file (m .0) (m .1) in
     let p : h′ ≡ m .0 .header = k .1 ∙ ap (λ o. putAt h 0 (puts (mapped headerOf o))) (m .1) ∙ put-whole h (m .0 .header) (w .header ∙ sym l) in
-    ap line (m .1) ∙ file-line (m .0) w ∙ ap (λ (y : Loaded). fieldsLine (y .fields) (shownName (m .0 .header))) (m .2)
-    ∙ ap (λ x′. fieldsLine (x .fields) (shownName x′)) (sym p)
+    ap line (m .1) ∙ ap (λ n. fileLine (m .0 .loaded .fields) n (shownName (m .0 .header))) (w .bytes)
+    ∙ ap (λ (y : Loaded). fileLine (y .fields) (dataBytes (y .fields)) (shownName (m .0 .header))) (m .2)
+    ∙ ap (λ n. fileLine (x .fields) (dataBytes (x .fields)) (shownName n)) (sym p)
 
 pub listing-told : (file h : List ℕ) → length h ≡ 192 → (a : FileAnswer) (h′ : List ℕ) → Kept (fileIn file) h a h′ → answerText a h′ ≡ listing file
 unfolding listing

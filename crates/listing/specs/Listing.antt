@@ -8,6 +8,7 @@ use Rattle.lists.specs.Text.{ascii}
 use Rattle.refusal.specs.declared.Reason.the-variants.{WrongSize, NoRoom}
 use Rattle.refusal.specs.Refusal.{Outcome, refused, accepted, refuse, andThen}
 use Rattle.pulse.specs.Pulse.{fixed, classes}
+use Rattle.header.specs.declared.Fields.{Fields}
 use Rattle.header.specs.Header.{shownName}
 use Rattle.file.specs.Reading.{FileRead, readFile}
 use Rattle.tap.specs.Reading.{tapOf}
@@ -45,17 +46,16 @@ unfoldable pub printed : ℕ → ℕ
 printed b = cond (ltb b 0x20 || ltb 0x7e b) 0x2e b
 
 -- type, start, end, number of bytes, shown name
-unfoldable pub fileLine : FileRead → List ℕ
-fileLine f =
-    field (decimal (f .loaded .fields .kind)) ++ field (hexadecimal (f .loaded .fields .start)) ++ field (hexadecimal (f .loaded .fields .end))
-    ++ field (decimal (length (f .bytes))) ++ map printed (shownName (f .header)) ++ newline
+unfoldable pub fileLine : (fields : Fields) (count : ℕ) (name : List ℕ) → List ℕ
+fileLine f count name =
+    field (decimal (f .kind)) ++ field (hexadecimal (f .start)) ++ field (hexadecimal (f .end)) ++ field (decimal count) ++ map printed name ++ newline
 
 unfoldable pub refusalLine : (number block place : ℕ) → List ℕ
 refusalLine number block place = field (ascii "refused") ++ field (decimal number) ++ field (decimal block) ++ (decimal place ++ newline)
 
 abbrev pub line : Outcome FileRead → List ℕ
 line (refused number block place) = refusalLine number block place
-line (accepted f) = fileLine f
+line (accepted f) = fileLine (f .loaded .fields) (length (f .bytes)) (shownName (f .header))
 
 -- ---- The listing
 

@@ -18,9 +18,10 @@ ghost use lib.ListN.{length, take};
 ghost use lib.Seq.{sets};
 ghost use Rattle.lists.specs.Buffer.{putAt};
 ghost use Rattle.refusal.specs.Refusal.{numberOf, mapped, puts, Written};
+ghost use Rattle.file.specs.File.{dataBytes};
 ghost use Rattle.file.specs.Reading.{loadedOf, headerOf, fileAnswer};
-ghost use Rattle.listing.specs.Listing.{digit, digits, decimal, hexadecimal, field, printed, refusalLine, fileIn, listTape};
-ghost use Rattle.listing.specs.Lines.{Appended, fieldsLine, answerText};
+ghost use Rattle.listing.specs.Listing.{digit, digits, decimal, hexadecimal, field, printed, fileLine, refusalLine, fileIn, listTape};
+ghost use Rattle.listing.specs.Lines.{Appended, answerText};
 
 // The longest input that is listed: 16 KiB.
 pub const MOST_INPUT: usize = 16_384;
@@ -104,7 +105,7 @@ fn put_refusal(r: Refusal, out: &mut [u8], at: usize) -> usize
 
 fn put_fields(fields: Fields, name: &[u8], out: &mut [u8], at: usize) -> usize
     requires { ⌜ at + 53 + length (now name) ≤ length (now out) ⌝ }
-    ensures { λ r. ⌜ Appended (now (out .entry)) at (fieldsLine fields (now (name .entry))) r (now (out .exit)) ⌝ }
+    ensures { λ r. ⌜ Appended (now (out .entry)) at (fileLine fields (dataBytes fields) (now (name .entry))) r (now (out .exit)) ⌝ }
 {
     let start = put_number(fields.kind as u64, b' ', out, at);
     let end = put_address(fields.start, out, start);

@@ -192,11 +192,11 @@ written-front file bytes count file′ l h e = rw (e, ← l) (part-put file 0 by
 pub round-trip : RoundTrip
 round-trip = record {
   returned = λ v ds file count file′ w out h r out′ s.
-    let m = mapped-accepted length (writeTap (length file) v ds) (w .0) in
-    let t = accepted-sent (length file) v ds (m .0) (m .1) in
-    let p : file′ ≡ putAt file 0 (m .0) = w .1 ∙ ap (λ o. putAt file 0 (puts o)) (m .1) in
-    let b : take count file′ ≡ m .0 = written-front file (m .0) count file′ (m .2) (t .fits) p in
-    returned v ds out h r out′ (readTap (length out) (take count file′)) (rw (b, t .file) (read-back v ds (t .few) (t .old) (t .has) (length out) h)) s;
+      let m = mapped-accepted length (writeTap (length file) v ds) (w .0) in
+      let t = accepted-sent (length file) v ds (m .0) (m .1) in
+      let p : file′ ≡ putAt file 0 (m .0) = w .1 ∙ ap (λ o. putAt file 0 (puts o)) (m .1) in
+      let b : take count file′ ≡ m .0 = written-front file (m .0) count file′ (m .2) (t .fits) p in
+      returned v ds out h r out′ (readTap (length out) (take count file′)) (rw (b, t .file) (read-back v ds (t .few) (t .old) (t .has) (length out) h)) s;
   taken = right-taken;
   zero = without-zero;
   one = without-one;

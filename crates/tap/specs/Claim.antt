@@ -31,14 +31,11 @@ pub record RoundTrip : Type 0 where
       → (out : List ℕ) → length durations ≤ length out
       → (r : TapAnswer) (out′ : List ℕ) → Reads (readTap (length out) (take count file′)) out r out′
       → Returned version durations out r out′
-
   -- the writer accepts all right durations for which there is room
   pub taken :
       (room version : ℕ) (durations : List ℕ) → Right version durations → length (tapFile version (tapData version durations)) ≤ room
       → writeTap room version durations ≡ accepted (tapFile version (tapData version durations))
-
   -- version 0 has a form for the multiples of 8 from 8 to 2,048
   pub zero : (d : ℕ) → hasNoForm 0 d ≡ not (eqb (d % 8) 0 && leb 8 d && leb d 2048)
-
   -- version 1 has a form for 0 and the multiples of 8 up to 134,217,720
   pub one : (d : ℕ) → hasNoForm 1 d ≡ not (eqb (d % 8) 0 && leb d 134217720)

@@ -23,7 +23,6 @@ abbrev put-digits-below : ℕ → In 1 put-digits-kinds.ps
 put-digits-below t =
     and 1 put-digits-kinds.ps (falls 1 put-digits-kinds.ps _<_ μ-put-digits t) put-digits.Pre
 
--- src/lib.rt:141:9
 put-digits-returns : (t : ℕ) → put-digits-lts.Need-returns (
   digit-of-reads.Asked,
   digit-of-reads.Learnt,
@@ -32,7 +31,6 @@ put-digits-returns : (t : ℕ) → put-digits-lts.Need-returns (
 ) (put-digits-at t) put-digits.Post
 put-digits-returns t c = let a = c .before .before .args in nothing-put (now (a .out)) (a .at) (a .n) (c .if1 .taken)
 
--- src/lib.rt:144:19
 put-digits-digit-of-requires : (t : ℕ) → put-digits-lts.Need-digit-of-requires (
   digit-of-reads.Asked,
   digit-of-reads.Learnt,
@@ -41,7 +39,6 @@ put-digits-digit-of-requires : (t : ℕ) → put-digits-lts.Need-digit-of-requir
 ) (put-digits-at t) put-digits.Post
 put-digits-digit-of-requires t c κs = omega arith
 
--- src/lib.rt:144:9
 put-digits-slice-write-out : (t : ℕ) → put-digits-lts.Need-slice-write-out (
   digit-of-reads.Asked,
   digit-of-reads.Learnt,
@@ -50,7 +47,6 @@ put-digits-slice-write-out : (t : ℕ) → put-digits-lts.Need-slice-write-out (
 ) (put-digits-at t) put-digits.Post
 put-digits-slice-write-out t c = let n = c .before .before .if1 .left in omega arith
 
--- src/lib.rt:145:16
 put-digits-add-result : (t : ℕ) → put-digits-lts.Need-add-result (
   digit-of-reads.Asked,
   digit-of-reads.Learnt,
@@ -59,7 +55,6 @@ put-digits-add-result : (t : ℕ) → put-digits-lts.Need-add-result (
 ) (put-digits-at t) put-digits.Post
 put-digits-add-result t c = search needs
 
--- src/lib.rt:145:9
 put-digits-same-length : (t : ℕ) → put-digits-lts.Need-same-length (
   digit-of-reads.Asked,
   digit-of-reads.Learnt,
@@ -68,7 +63,6 @@ put-digits-same-length : (t : ℕ) → put-digits-lts.Need-same-length (
 ) (put-digits-at t) put-digits.Post
 put-digits-same-length t c = search needs
 
--- src/lib.rt:145:9
 put-digits-returns-2 : (t : ℕ) → put-digits-lts.Need-returns-2 (
   digit-of-reads.Asked,
   digit-of-reads.Learnt,
@@ -77,7 +71,6 @@ put-digits-returns-2 : (t : ℕ) → put-digits-lts.Need-returns-2 (
 ) (put-digits-at t) put-digits.Post
 put-digits-returns-2 t c = let a = c .before .before .before .before .args in last-put (now (a .out)) (a .at) (a .most) (a .n) (c .before .before .if1 .left) (c .before .if2 .taken) (c .digit-of .ensures)
 
--- src/lib.rt:147:27
 put-digits-sub-put-digits : (t : ℕ) → put-digits-lts.Need-sub-put-digits (
   digit-of-reads.Asked,
   digit-of-reads.Learnt,
@@ -86,7 +79,6 @@ put-digits-sub-put-digits : (t : ℕ) → put-digits-lts.Need-sub-put-digits (
 ) (put-digits-at t) put-digits.Post
 put-digits-sub-put-digits t c = let n = c .before .if1 .left in omega arith
 
--- src/lib.rt:147:9
 put-digits-put-digits-requires : (t : ℕ) → put-digits-lts.Need-put-digits-requires (
   digit-of-reads.Asked,
   digit-of-reads.Learnt,
@@ -95,7 +87,6 @@ put-digits-put-digits-requires : (t : ℕ) → put-digits-lts.Need-put-digits-re
 ) (put-digits-at t) put-digits.Post
 put-digits-put-digits-requires t c κs = let s = c .before .before .before .before in let n = c .before .before .if1 .left in (omega (arith, s .pre .0), omega (arith, s .pre .1))
 
--- src/lib.rt:148:17
 put-digits-digit-of-requires-2 : (t : ℕ) → put-digits-lts.Need-digit-of-requires-2 (
   digit-of-reads.Asked,
   digit-of-reads.Learnt,
@@ -104,7 +95,6 @@ put-digits-digit-of-requires-2 : (t : ℕ) → put-digits-lts.Need-digit-of-requ
 ) (put-digits-at t) put-digits.Post
 put-digits-digit-of-requires-2 t c κs = omega arith
 
--- src/lib.rt:148:5
 put-digits-slice-write-out-2 : (t : ℕ) → put-digits-lts.Need-slice-write-out-2 (
   digit-of-reads.Asked,
   digit-of-reads.Learnt,
@@ -118,7 +108,6 @@ put-digits-slice-write-out-2 t c =
     let a = s .args in
     more-room (now (a .out)) (a .at) (a .most) (a .n) (e .before .if1 .left) (p .put-digits .ensures) (s .pre .1)
 
--- src/lib.rt:149:5
 put-digits-add-result-2 : (t : ℕ) → put-digits-lts.Need-add-result-2 (
   digit-of-reads.Asked,
   digit-of-reads.Learnt,
@@ -134,7 +123,6 @@ put-digits-add-result-2 t c =
     let l = append-length (p .put-digits .ensures) in
     omega arith
 
--- src/lib.rt:136:1
 put-digits-same-length-2 : (t : ℕ) → put-digits-lts.Need-same-length-2 (
   digit-of-reads.Asked,
   digit-of-reads.Learnt,
@@ -143,7 +131,6 @@ put-digits-same-length-2 : (t : ℕ) → put-digits-lts.Need-same-length-2 (
 ) (put-digits-at t) put-digits.Post
 put-digits-same-length-2 t c = search needs
 
--- src/lib.rt:136:1
 put-digits-returns-3 : (t : ℕ) → put-digits-lts.Need-returns-3 (
   digit-of-reads.Asked,
   digit-of-reads.Learnt,

@@ -52,18 +52,18 @@ at-requires : tie.Need-at-requires
 at-requires c κs = search needs
 
 returns : tie.Need-returns
-returns c = 
+returns c =
     let t = c .before in
     let p = t .before .before in
     no-room (now (lent p .args .file)) (now (lent p .args .out)) (told p) (p .put-listing .ensures) (omega (arith, room)) (small p) (t .if1 .taken) (c .at .ensures)
 
 array-share-prefix-text : tie.Need-array-share-prefix-text
-array-share-prefix-text c = 
+array-share-prefix-text c =
     let p = c .before .before in
     within p
 
 slice-aggregate-put-bytes : tie.Need-slice-aggregate-put-bytes
-slice-aggregate-put-bytes c = 
+slice-aggregate-put-bytes c =
     let p = c .before .before .before in
     sym (length-take-le (p .put-listing .result) (p .put-listing .last .1 .1 .0) (within p))
 
@@ -74,7 +74,7 @@ same-length : tie.Need-same-length
 same-length c = search needs
 
 returns-2 : tie.Need-returns-2
-returns-2 c = 
+returns-2 c =
     let b = c .before .before in
     let e = b .before .before .before in
     let p = e .before .before in

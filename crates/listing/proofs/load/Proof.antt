@@ -14,7 +14,7 @@ at-requires : tie.Need-at-requires
 at-requires c κs = search needs
 
 returns : tie.Need-returns
-returns c = 
+returns c =
     let t = c .before in
     let a = t .before .before .before .args in
     too-long (now (a .file)) (now (a .header)) (t .if1 .taken) (c .at .ensures)
@@ -32,7 +32,7 @@ enum-known-t : tie.Need-enum-known-t
 enum-known-t c = search needs
 
 array-share-prefix-strip : tie.Need-array-share-prefix-strip
-array-share-prefix-strip c = 
+array-share-prefix-strip c =
     let k = c .before in
     let t = k .before .before .before in
     let e = t .before .before in
@@ -40,7 +40,7 @@ array-share-prefix-strip c =
     count-within (now (a .file)) (now (a .header)) (e .if1 .left) (t .read-tap .ensures) (k .t .given .1)
 
 slice-aggregate-read-file : tie.Need-slice-aggregate-read-file
-slice-aggregate-read-file c = 
+slice-aggregate-read-file c =
     let k = c .before .before in
     let t = k .before .before .before in
     let e = t .before .before in
@@ -54,7 +54,7 @@ read-file-requires : tie.Need-read-file-requires
 read-file-requires c κs = search needs
 
 returns-2 : tie.Need-returns-2
-returns-2 c = 
+returns-2 c =
     let k = c .before in
     let t = k .before .before .before in
     let e = t .before .before in
@@ -65,7 +65,7 @@ same-length : tie.Need-same-length
 same-length c = search needs
 
 returns-3 : tie.Need-returns-3
-returns-3 c = 
+returns-3 c =
     let f = c .before .before .before in
     let k = f .before .before .before .before .before in
     let t = k .before .before .before in

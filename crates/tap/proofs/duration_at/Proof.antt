@@ -16,12 +16,12 @@ byte-cycles-requires : tie.Need-byte-cycles-requires
 byte-cycles-requires c κs = search needs
 
 returns : tie.Need-returns
-returns c = 
+returns c =
     let a = c .before .before .before .before .args in
     c .byte-cycles .ensures ∙ sym (duration-byte (a .version) (now (a .bytes)) (a .i) (c .before .if1 .taken))
 
 returns-2 : tie.Need-returns-2
-returns-2 c = 
+returns-2 c =
     let a = c .before .before .before .before .args in
     sym (duration-zero (a .version) (now (a .bytes)) (a .i) (c .before .if1 .left) (c .if2 .taken))
 
@@ -29,7 +29,7 @@ add-three-bytes : tie.Need-add-three-bytes
 add-three-bytes c = search needs
 
 three-bytes-requires : tie.Need-three-bytes-requires
-three-bytes-requires c κs = 
+three-bytes-requires c κs =
     let s = c .before .before .before .before in
     let a = s .args in
     let w = width-long (a .version) (now (a .bytes)) (a .i) (c .before .if1 .left) (c .if2 .left) in
@@ -42,7 +42,7 @@ mul-result : tie.Need-mul-result
 mul-result c = let b = c .before .before .three-bytes .ensures .1 in rw (c .before .long-unit .ensures) (omega arith)
 
 returns-3 : tie.Need-returns-3
-returns-3 c = 
+returns-3 c =
     let b = c .before .before in
     let t = b .before in
     let a = t .before .before .before .before .args in

@@ -47,7 +47,7 @@ cast-result : tie.Need-cast-result
 cast-result c = search needs
 
 returns : tie.Need-returns
-returns c = 
+returns c =
     let m = c .before .before in
     let l = m .before .before in
     let a = l .before .before .before .args in

@@ -23,7 +23,7 @@ same-requires : tie.Need-same-requires
 same-requires c κs = search needs
 
 returns : tie.Need-returns
-returns c = 
+returns c =
     let s = c .before in
     let f = s .before .before .before .before in
     not-reserved (now (f .args .file)) (omega arith) (s .same .ensures) (c .if1 .taken)
@@ -53,7 +53,7 @@ sub-result : tie.Need-sub-result
 sub-result c = search needs
 
 returns-2 : tie.Need-returns-2
-returns-2 c = 
+returns-2 c =
     let b = c .before .before in
     let s = b .before .before in
     let f = s .before .before .before .before in
