@@ -14,6 +14,8 @@ use Rattle.header.specs.declared.Fields.{Fields}
 use Rattle.header.specs.Header.{headerBytes, fieldsOf}
 use Rattle.file.specs.File.{file, dataBytes, writeFile}
 use Rattle.file.specs.Reading.{readFile}
+use Rattle.tap.specs.Tap.{writeTap}
+use Rattle.tap.specs.Reading.{durationsOf, readTap}
 
 abbrev pub All : List (Type 0) → Type 0
 All [] = Unit {0}
@@ -37,6 +39,11 @@ gameName = 0x47 ∷ 0x41 ∷ 0x4d ∷ 0x45 ∷ []
 -- its header
 abbrev pub gameHeader : List ℕ
 gameHeader = 0x01 ∷ 0x01 ∷ 0x08 ∷ 0x09 ∷ 0x97 ∷ 0x47 ∷ 0x41 ∷ 0x4d ∷ 0x45 ∷ replicate 183 0x20
+
+-- a TAP file of a few data bytes: C64-TAPE-RAW, version, three zero bytes, their number in four bytes
+abbrev pub tapBytes : (version : ℕ) (bytes : List ℕ) → List ℕ
+tapBytes version bytes =
+    0x43 ∷ 0x36 ∷ 0x34 ∷ 0x2d ∷ 0x54 ∷ 0x41 ∷ 0x50 ∷ 0x45 ∷ 0x2d ∷ 0x52 ∷ 0x41 ∷ 0x57 ∷ version ∷ 0 ∷ 0 ∷ 0 ∷ length bytes ∷ 0 ∷ 0 ∷ 0 ∷ bytes
 
 abbrev pub cases : List (Type 0)
 cases =
@@ -71,4 +78,11 @@ cases =
     ∷ (readBlock (classes fixed (turned (64 + 20 * 9) (blockPulses 64 (0x00 ∷ [])))) 1 0 1 ≡ refused 7 0 1)
     -- n = 1, K = 64: 626 pulses
     ∷ (mapped length (writeBlock 626 64 (0x00 ∷ [])) ≡ accepted 626)
+    -- TAP data 2D 41 56 is 360, 520, 688 in either version
+    ∷ (mapped durationsOf (readTap 3 (tapBytes 0 (0x2d ∷ 0x41 ∷ 0x56 ∷ []))) ≡ accepted (360 ∷ 520 ∷ 688 ∷ []))
+    ∷ (mapped durationsOf (readTap 3 (tapBytes 1 (0x2d ∷ 0x41 ∷ 0x56 ∷ []))) ≡ accepted (360 ∷ 520 ∷ 688 ∷ []))
+    ∷ (writeTap 23 1 (360 ∷ 520 ∷ 688 ∷ []) ≡ accepted (tapBytes 1 (0x2d ∷ 0x41 ∷ 0x56 ∷ [])))
+    -- version 1 data 00 54 03 00 is 6,816 cycles
+    ∷ (mapped durationsOf (readTap 1 (tapBytes 1 (0x00 ∷ 0x54 ∷ 0x03 ∷ 0x00 ∷ []))) ≡ accepted (6816 ∷ []))
+    ∷ (writeTap 24 1 (6816 ∷ []) ≡ accepted (tapBytes 1 (0x00 ∷ 0x54 ∷ 0x03 ∷ 0x00 ∷ [])))
     ∷ []

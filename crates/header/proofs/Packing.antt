@@ -1,16 +1,14 @@
 -- Packing: what the loops keep, and what the call comes to.
 use Prim.Native.Nat.{ℕ, _+_, _≤_, _<_}
-use native.Mathlib.Nat.{zero-add}
-use native.Mathlib.Numerals.{add-one}
 use native.Mathlib.Omega.{arith}
 use mathlib.Core.Path.{_≡_, refl, _∙_}
 use mathlib.Core.Bool.{true, false}
 use mathlib.Core.List.{List}
 use borrow.Author.Tests.{lt-ltb, le-ltb}
-use lib.ListN.{length, drop, getD, set, replicate, drop-of-length-le}
-use lib.Seq.{sets, drop-cons}
+use lib.ListN.{length, getD, set, replicate}
+use lib.Seq.{sets}
 use Rattle.lists.specs.Buffer.{putAt}
-use Rattle.lists.proofs.BufferLaws.{put-room, sets-last}
+use Rattle.lists.proofs.BufferLaws.{sets-last}
 use Rattle.lists.proofs.LoopLaws.{Putting, put-begun, put-one, put-done, tableLeft, table-begun, table-next, table-over}
 use Rattle.refusal.specs.declared.Reason.the-variants.{WrongSize, NoRoom, WrongType}
 use Rattle.refusal.specs.declared.Refusal.{Refusal}

@@ -9,7 +9,7 @@ use mathlib.Core.List.{List, [], _∷_, _++_, map}
 use borrow.Author.Tests.{lt-ltb, le-ltb, ltb-false}
 use lib.Dec.{ltb}
 use lib.ListN.{length, drop, getD, set, length-append, length-map, drop-of-length-le}
-use lib.Seq.{sets, length-sets, drop-cons}
+use lib.Seq.{length-sets, drop-cons}
 use Rattle.lists.specs.Text.{ascii}
 use Rattle.lists.proofs.BufferLaws.{length-put, sets-append}
 use Rattle.lists.proofs.LoopLaws.{Putting, put-begun, put-one, put-done}

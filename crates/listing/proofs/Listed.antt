@@ -1,5 +1,5 @@
 -- What loading a file and listing it come to, by what their parts answered.
-use Prim.Native.Nat.{ℕ, _+_, _-_, _≤_, _<_}
+use Prim.Native.Nat.{ℕ, _≤_, _<_}
 use native.Mathlib.Nat.{zero-add}
 use native.Mathlib.Omega.{arith}
 use mathlib.Core.Path.{_≡_, refl, sym, ap, ap₂, _∙_}
@@ -12,7 +12,7 @@ use Rattle.lists.proofs.BufferLaws.{length-put, part-put, put-room, put-whole}
 use Rattle.refusal.specs.declared.Reason.the-variants.{WrongSize, NoRoom}
 use Rattle.refusal.specs.declared.Refusal.{Refusal}
 use Rattle.refusal.specs.declared.Put.the-variants.{Count, Refused as PutRefused}
-use Rattle.refusal.specs.Refusal.{Outcome, refused, accepted, refusalAt, told, mapped, andThen, puts, Written}
+use Rattle.refusal.specs.Refusal.{Outcome, accepted, refusalAt, told, mapped, andThen, puts, Written}
 use Rattle.refusal.proofs.OutcomeLaws.{mapped-refused, told-refused, puts-refused, accepted-next, then-accepted, mapped-told, mapped-accepted, written-refused, written-accepted}
 use Rattle.pulse.specs.Pulse.{fixed, classes}
 use Rattle.header.specs.Header.{shownName}

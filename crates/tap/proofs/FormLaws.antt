@@ -1,18 +1,17 @@
 -- Laws of the form that a duration is written in.
-use Prim.Native.Nat.{ℕ, zero, suc, _+_, _*_, _/_, _%_, _^_, _≤_, _<_}
-use native.Mathlib.Decide.{ℕ-discrete, decLe, decLt}
+use Prim.Native.Nat.{ℕ, _+_, _*_, _/_, _%_, _^_, _≤_, _<_}
+use native.Mathlib.Decide.{ℕ-discrete, decLe}
 use native.Mathlib.Numerals.{add-one}
 use native.Mathlib.Omega.{arith}
 use mathlib.Core.Path.{_≡_, refl, sym, ap, _∙_}
-use mathlib.Core.Logic.{_⊎_, inl, inr}
 use mathlib.Core.Bool.{Bool, true, false, cond, not, _&&_}
 use mathlib.Core.List.{List, [], _∷_, _++_}
 use borrow.Author.Tests.{eq-eqb, ne-eqb, le-leb, lt-leb, lt-ltb, le-ltb}
 use lib.Dec.{eqb, leb, ltb}
 use lib.ListN.{length, drop, getD, length-append, drop-of-length-le}
 use lib.Seq.{drop-cons}
-use Rattle.lists.specs.Text.{lowFirst, fromLow}
-use Rattle.lists.proofs.TextLaws.{length-low, from-low}
+use Rattle.lists.specs.Text.{lowFirst}
+use Rattle.lists.proofs.TextLaws.{length-low}
 use Rattle.pulse.specs.Units.{unitCycles}
 use Rattle.tap.specs.Tap.{longUnit, longForm, formOf, tapData, hasNoForm}
 use Rattle.tap.specs.Forms.{byteUnits}

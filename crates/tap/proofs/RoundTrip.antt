@@ -1,34 +1,31 @@
 -- Reading what was written: the header and each form read back, and with them the file.
 use Prim.Native.Nat.{ℕ, zero, suc, _+_, _*_, _/_, _%_, _^_, _≤_, _<_}
-use native.Mathlib.Nat.{add-zero, zero-add}
 use native.Mathlib.Decide.{ℕ-discrete, decLt}
 use native.Mathlib.Omega.{arith}
 use mathlib.Core.Path.{_≡_, refl, sym, ap, _∙_}
-use mathlib.Core.Bool.{true, false, not}
+use mathlib.Core.Bool.{false}
 use mathlib.Core.List.{List, [], _∷_, _++_}
 use mathlib.Core.Option.{none}
 use borrow.Author.Tests.{eq-eqb, le-ltb, eqb-false, ltb-false}
-use lib.Dec.{eqb, ltb}
+use lib.Dec.{ltb}
 use lib.ListN.{length, take, drop, getD}
-use lib.Seq.{take-append-seam}
 use Rattle.lists.specs.Places.{part}
 use Rattle.lists.specs.Buffer.{putAt}
-use Rattle.lists.specs.Text.{ascii, lowFirst, fromLow, equal}
+use Rattle.lists.specs.Text.{ascii, lowFirst, fromLow}
 use Rattle.lists.proofs.BufferLaws.{part-put, rest-front}
 use Rattle.lists.proofs.PlaceLaws.{none-first, first-none}
 use Rattle.lists.proofs.TextLaws.{length-low, from-low, same-equal}
 use Rattle.refusal.specs.declared.Reason.the-variants.{WrongSize, NoRoom, WrongTapVersion, NoTapForm}
-use Rattle.refusal.specs.declared.Put.the-variants.{Count}
-use Rattle.refusal.specs.Refusal.{Outcome, accepted, refusalAt, mapped, puts, Written}
+use Rattle.refusal.specs.Refusal.{Outcome, accepted, refusalAt, mapped, puts}
 use Rattle.refusal.proofs.OutcomeLaws.{accepted-next, first-accepted, first-found, then-accepted, mapped-accepted}
 use Rattle.pulse.specs.Units.{unitCycles}
 use Rattle.tap.specs.declared.TapAnswer.{TapAnswer}
-use Rattle.tap.specs.Tap.{letters, longUnit, tapHeader, longForm, formOf, tapData, tapFile, wrongVersion, hasNoForm, firstWithout, dataOf, putFile, writeTap}
+use Rattle.tap.specs.Tap.{letters, longUnit, tapHeader, formOf, tapData, tapFile, wrongVersion, hasNoForm, firstWithout, dataOf, putFile, writeTap}
 use Rattle.tap.specs.Reading.{wrongLetters, wrongCount, tapVersion, durationsIn, Tap, tapWith, tapOf, fitting, readTap, Reads}
 use Rattle.tap.specs.Claim.{Returned, Right, RoundTrip}
 use Rattle.tap.specs.Forms.{byteUnits}
-use Rattle.tap.proofs.FormLaws.{units-back, form-units, form-other, form-zero, form-missing, form-long, long-between, long-fits, long-over, width-data, without-zero, without-one}
-use Rattle.tap.proofs.Writing.{length-header, length-file}
+use Rattle.tap.proofs.FormLaws.{units-back, form-units, form-zero, form-missing, form-long, long-between, long-fits, long-over, width-data, without-zero, without-one}
+use Rattle.tap.proofs.Writing.{length-file}
 
 -- ---- The header
 

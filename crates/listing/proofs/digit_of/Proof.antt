@@ -1,5 +1,4 @@
 -- `listing::digit_of` meets its contract: code and definition go by the same test.
-use Prim.Native.Nat.{_-_}
 use native.Mathlib.Omega.{arith}
 use borrow.Author.Tests.{lt-ltb, le-ltb}
 use borrow.Author.Needs.{needs}

@@ -1,5 +1,5 @@
 -- `listing::list_tape` meets its contract: the text of what was read is the listing; it is put where there is room.
-use Prim.Native.Nat.{ℕ, _-_, _≤_}
+use Prim.Native.Nat.{ℕ, _≤_}
 use native.Mathlib.Omega.{arith}
 use mathlib.Core.Path.{_≡_, sym}
 use borrow.Author.Needs.{needs}

@@ -1,6 +1,5 @@
 -- `listing::load` meets its contract: refusal 1, what the TAP reader refuses, and then what the file reader comes to.
 use Prim.Native.Nat.{ℕ}
-use Prim.Native.Nat.{_-_}
 use mathlib.Core.Path.{sym}
 use borrow.Author.Needs.{needs}
 use denote.Ref.{now}

@@ -1,5 +1,4 @@
 -- `listing::printed_as` meets its contract: code and definition go by the same test.
-use Prim.Native.Nat.{_-_}
 use Rattle.listing.specs.Listing.{printed}
 use Rattle.listing.proofs.printed_as.Statement.{statement}
 use Rattle.listing.proofs.printed_as.Tie as tie

@@ -1,5 +1,4 @@
 -- `listing::put_address` meets its contract: five stores, one after the other.
-use Prim.Native.Nat.{_-_}
 use native.Mathlib.Omega.{arith}
 use borrow.Author.Needs.{needs}
 use denote.Ref.{now}

@@ -1,5 +1,5 @@
 -- `listing::put_fields` meets its contract: the parts of the line, one after the other, with room for each.
-use Prim.Native.Nat.{ℕ, _+_, _-_, _≤_}
+use Prim.Native.Nat.{ℕ, _+_, _≤_}
 use native.Mathlib.Omega.{arith}
 use borrow.Author.Needs.{needs}
 use denote.Ref.{now}
@@ -30,22 +30,22 @@ width c = length (now (lent c .args .name))
 
 -- the room that is left after each part
 after-kind : (c : tie.After-put-number) → c .put-number .result + (32 + width c) ≤ length (c .put-number .last .1 .1 .0)
-after-kind c = append-room (c .put-number .ensures) 21 (32 + width c) (width-number (lent c .args .fields .kind) 0x20) (omega (arith, lent c .pre))
+after-kind c = append-room (c .put-number .ensures) 21 (32 + width c) (width-number _ 0x20) (omega (arith, lent c .pre))
 
 after-start : (c : tie.After-put-address) → c .put-address .result + (27 + width (kind-of c)) ≤ length (c .put-address .last .1 .0)
 after-start c =
     let k = kind-of c in
-    append-room (c .put-address .ensures) 5 (27 + width k) (width-address (lent k .args .fields .start)) (omega (arith, after-kind k))
+    append-room (c .put-address .ensures) 5 (27 + width k) (width-address _) (omega (arith, after-kind k))
 
 after-end : (c : tie.After-put-address2) → c .put-address2 .result + (22 + width (kind-of (start-of c))) ≤ length (c .put-address2 .last .1 .0)
 after-end c =
     let k = kind-of (start-of c) in
-    append-room (c .put-address2 .ensures) 5 (22 + width k) (width-address (lent k .args .fields .end)) (omega (arith, after-start (start-of c)))
+    append-room (c .put-address2 .ensures) 5 (22 + width k) (width-address _) (omega (arith, after-start (start-of c)))
 
 after-count : (c : tie.After-put-number2) → c .put-number2 .result + (1 + width (kind-of (start-of (end-of c)))) ≤ length (c .put-number2 .last .1 .1 .0)
 after-count c =
     let k = kind-of (start-of (end-of c)) in
-    append-room (c .put-number2 .ensures) 21 (1 + width k) (width-number (c .before .before .data-bytes .result) 0x20) (omega (arith, after-end (end-of c)))
+    append-room (c .put-number2 .ensures) 21 (1 + width k) (width-number _ 0x20) (omega (arith, after-end (end-of c)))
 
 after-name : (c : tie.After-put-name) → c .put-name .result + 1 ≤ length (c .put-name .last .1 .0)
 after-name c =

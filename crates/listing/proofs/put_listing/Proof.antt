@@ -1,42 +1,31 @@
-use Prim.Native.Nat.{ℕ, _+_, _-_, _*_, _/_, _%_, _^_, _≤_, _<_}
-use lib.ListN.{length, take, drop, getD, set, length-set}
-use denote.Ref.{now}
-use mathlib.Core.Path.{_≡_, refl, sym, ap, ap₂, _∙_}
+-- `listing::put_listing` meets its contract: the heading, and after it the line of the answer.
 use native.Mathlib.Omega.{arith}
-use Rattle.header.proofs.HeaderLaws.{width-shown}
-use Rattle.lists.specs.Text.{ascii}
-use Rattle.listing.proofs.LineLaws.{append-room, refusal-listed, file-listed}
 use borrow.Author.Needs.{needs}
+use denote.Ref.{now}
+use Rattle.lists.specs.Text.{ascii}
+use Rattle.header.proofs.HeaderLaws.{width-shown}
+use Rattle.listing.proofs.LineLaws.{append-room, refusal-listed, file-listed}
 use Rattle.listing.proofs.put_listing.Statement.{statement}
 use Rattle.listing.proofs.put_listing.Tie as tie
-use Rattle.listing.proofs.put_listing.Reads as reads
-use Rattle.listing.proofs.put_listing.Lts as lts
 
--- src/lib.rt:84:23
 slice-aggregate-put-text : tie.Need-slice-aggregate-put-text
 slice-aggregate-put-text c = search needs
 
--- src/lib.rt:84:9
 put-text-requires : tie.Need-put-text-requires
 put-text-requires c κs = search needs
 
--- src/lib.rt:86:29
 enum-known-answer : tie.Need-enum-known-answer
 enum-known-answer c = search needs
 
--- src/lib.rt:86:35
 put-refusal-requires : tie.Need-put-refusal-requires
 put-refusal-requires c κs = search needs
 
--- src/lib.rt:87:30
 enum-known-answer-2 : tie.Need-enum-known-answer-2
 enum-known-answer-2 c = search needs
 
--- src/lib.rt:89:32
 shown-name-requires : tie.Need-shown-name-requires
 shown-name-requires c κs = search needs
 
--- src/lib.rt:89:13
 put-fields-requires : tie.Need-put-fields-requires
 put-fields-requires c κs =
     let n = c .before in
@@ -46,11 +35,9 @@ put-fields-requires c κs =
     let r = append-room (t .put-text .ensures) 26 102 (omega arith) (omega (arith, t .before .before .before .before .before .pre)) in
     rw s (omega arith)
 
--- src/lib.rt:80:1
 same-length : tie.Need-same-length
 same-length c = search needs
 
--- src/lib.rt:80:1
 returns : tie.Need-returns
 unfolding ascii
 returns c =
@@ -59,11 +46,9 @@ returns c =
     let t = k .before .before .before .before in
     refusal-listed (t .put-text .ensures) (now (t .before .before .before .before .before .args .header)) (k .answer .given .1) (r .put-refusal .ensures)
 
--- src/lib.rt:80:1
 same-length-2 : tie.Need-same-length-2
 same-length-2 c = search needs
 
--- src/lib.rt:80:1
 returns-2 : tie.Need-returns-2
 unfolding ascii
 returns-2 c =

@@ -1,5 +1,4 @@
 -- `listing::put_number` meets its contract: the digits, and the character after them.
-use Prim.Native.Nat.{_-_}
 use native.Mathlib.Omega.{arith}
 use borrow.Author.Needs.{needs}
 use Rattle.listing.proofs.LineLaws.{append-one, append-length, append-room, width-digits}

@@ -1,5 +1,5 @@
 -- `listing::put_refusal` meets its contract: the parts of the line, one after the other, with room for each.
-use Prim.Native.Nat.{_+_, _-_, _≤_}
+use Prim.Native.Nat.{_+_, _≤_}
 use native.Mathlib.Omega.{arith}
 use borrow.Author.Needs.{needs}
 use lib.ListN.{length}
@@ -27,10 +27,10 @@ after-word : (c : tie.After-put-text) → c .put-text .result + 63 ≤ length (c
 after-word c = append-room (c .put-text .ensures) 8 63 (omega arith) (omega (arith, lent c .pre))
 
 after-number : (c : tie.After-put-number) → c .put-number .result + 42 ≤ length (c .put-number .last .1 .1 .0)
-after-number c = append-room (c .put-number .ensures) 21 42 (width-number (c .before .before .number .result) 0x20) (omega (arith, after-word (word-of c)))
+after-number c = append-room (c .put-number .ensures) 21 42 (width-number _ 0x20) (omega (arith, after-word (word-of c)))
 
 after-block : (c : tie.After-put-number2) → c .put-number2 .result + 21 ≤ length (c .put-number2 .last .1 .1 .0)
-after-block c = append-room (c .put-number2 .ensures) 21 21 (width-number (lent (word-of (number-of c)) .args .r .block) 0x20) (omega (arith, after-number (number-of c)))
+after-block c = append-room (c .put-number2 .ensures) 21 21 (width-number _ 0x20) (omega (arith, after-number (number-of c)))
 
 slice-aggregate-put-text : tie.Need-slice-aggregate-put-text
 slice-aggregate-put-text c = search needs

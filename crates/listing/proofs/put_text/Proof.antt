@@ -1,5 +1,4 @@
 -- `listing::put_text` meets its contract: there is room for the text.
-use Prim.Native.Nat.{_-_}
 use native.Mathlib.Omega.{arith}
 use mathlib.Core.Path.{refl, sym, _∙_}
 use borrow.Author.Needs.{needs}

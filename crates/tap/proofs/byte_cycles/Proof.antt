@@ -1,5 +1,4 @@
 -- `tap::byte_cycles` meets its contract: as many units as a byte counts always fit.
-use Prim.Native.Nat.{_-_}
 use native.Mathlib.Omega.{arith}
 use borrow.Author.Needs.{needs}
 use Rattle.tap.proofs.Converting.{never-too-long, byte-fits}

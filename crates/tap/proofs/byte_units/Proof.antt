@@ -1,5 +1,4 @@
 -- `tap::byte_units` meets its contract: between two units there is none, and a whole number counts where one byte holds it.
-use Prim.Native.Nat.{_-_}
 use borrow.Author.Needs.{needs}
 use Rattle.tap.proofs.Converting.{between, few, many}
 use Rattle.tap.proofs.byte_units.Statement.{statement}

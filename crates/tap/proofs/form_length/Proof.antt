@@ -1,5 +1,4 @@
 -- `tap::form_length` meets its contract, case by case.
-use Prim.Native.Nat.{_-_}
 use borrow.Author.Needs.{needs}
 use Rattle.lists.specs.Text.{lowFirst}
 use Rattle.tap.proofs.form_length.Statement.{statement}

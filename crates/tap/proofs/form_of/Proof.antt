@@ -1,5 +1,4 @@
 -- `tap::form_of` meets its contract: one byte where there are units for it, and else by version.
-use Prim.Native.Nat.{_-_}
 use mathlib.Core.Path.{sym, ap, _∙_}
 use mathlib.Core.List.{[], _∷_}
 use borrow.Author.Needs.{needs}

@@ -1,5 +1,4 @@
 -- `tap::form_width` meets its contract: code and definition go by the same tests.
-use Prim.Native.Nat.{_-_}
 use borrow.Author.Tests.{eq-eqb, ne-eqb}
 use Rattle.tap.specs.Forms.{formWidth}
 use Rattle.tap.proofs.form_width.Statement.{statement}

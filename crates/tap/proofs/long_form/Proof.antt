@@ -1,5 +1,4 @@
 -- `tap::long_form` meets its contract: code and definition go by the same tests.
-use Prim.Native.Nat.{_-_}
 use native.Mathlib.Omega.{arith}
 use mathlib.Core.Path.{sym}
 use borrow.Author.Needs.{needs}

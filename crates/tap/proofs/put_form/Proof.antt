@@ -1,5 +1,4 @@
 -- `tap::put_form` meets its contract, case by case.
-use Prim.Native.Nat.{_-_}
 use native.Mathlib.Omega.{arith}
 use mathlib.Core.Path.{_∙_}
 use borrow.Author.Needs.{needs}

@@ -1,5 +1,4 @@
 -- `tap::put_long` meets its contract: four stores, one after the other.
-use Prim.Native.Nat.{_-_}
 use native.Mathlib.Omega.{arith}
 use borrow.Author.Needs.{needs}
 use denote.Ref.{now}

@@ -1,5 +1,4 @@
 -- `tap::read_data` meets its contract: refusals 12 and 2, and else the durations, put in front.
-use Prim.Native.Nat.{_-_}
 use borrow.Author.Needs.{needs}
 use denote.Ref.{now}
 use Rattle.tap.proofs.Decoding.{data-cut, data-sound, data-count, data-no-room, data-whole}

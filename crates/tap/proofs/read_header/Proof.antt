@@ -1,5 +1,4 @@
 -- `tap::read_header` meets its contract: refusals 10, 11 and 10, and else the version.
-use Prim.Native.Nat.{_-_}
 use native.Mathlib.Omega.{arith}
 use mathlib.Core.Path.{sym, _∙_}
 use borrow.Author.Needs.{needs}

@@ -1,5 +1,4 @@
 -- `tap::read_tap` meets its contract: what the header comes to, and then the data.
-use Prim.Native.Nat.{_-_}
 use borrow.Author.Needs.{needs}
 use denote.Ref.{now}
 use Rattle.tap.proofs.Decoding.{header-wrong, header-long, header-sound}

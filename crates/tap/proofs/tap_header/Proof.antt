@@ -1,5 +1,4 @@
 -- `tap::tap_header` meets its contract: the letters, and five bytes stored after them.
-use Prim.Native.Nat.{_-_}
 use borrow.Author.Needs.{needs}
 use Rattle.lists.specs.Text.{ascii, lowFirst}
 use Rattle.tap.specs.Tap.{tapHeader}

@@ -1,5 +1,4 @@
 -- `tap::three_bytes` meets its contract: each byte counts 256 of the one before it.
-use Prim.Native.Nat.{_-_}
 use native.Mathlib.Omega.{arith}
 use borrow.Author.Needs.{needs}
 use denote.Ref.{now}

@@ -1,5 +1,4 @@
 -- `tap::write_data` meets its contract: refusal 2, and else the header and after it the data.
-use Prim.Native.Nat.{_-_}
 use borrow.Author.Needs.{needs}
 use denote.Ref.{now}
 use Rattle.tap.specs.Tap.{tapData}
@@ -15,10 +14,9 @@ at-requires c κs = search needs
 
 returns : tie.Need-returns
 returns c =
-    let t = c .before in
-    let s = t .before .before .before in
+    let s = c .before .before .before .before in
     let a = s .args in
-    file-no-room (now (a .out)) (a .version) (tapData (a .version) (now (a .durations))) (s .pre .0) (t .if1 .taken) (c .at .ensures)
+    file-no-room (now (a .out)) (a .version) (tapData (a .version) (now (a .durations))) (s .pre .0) (c .before .if1 .taken) (c .at .ensures)
 
 tap-header-requires : tie.Need-tap-header-requires
 tap-header-requires c κs = search needs

@@ -1,5 +1,4 @@
 -- `tap::write_tap` meets its contract: refusals 1, 11 and 13, and then what is written.
-use Prim.Native.Nat.{_-_}
 use native.Mathlib.Omega.{arith}
 use borrow.Author.Needs.{needs}
 use denote.Ref.{now}

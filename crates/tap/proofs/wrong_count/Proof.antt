@@ -1,5 +1,4 @@
 -- `tap::wrong_count` meets its contract: a reserved byte, or another number than that of the data bytes.
-use Prim.Native.Nat.{_-_}
 use native.Mathlib.Omega.{arith}
 use borrow.Author.Needs.{needs}
 use denote.Ref.{now}

@@ -1,5 +1,4 @@
 -- `tape_list::main` stays within its buffers: the bytes read and the text put.
-use Prim.Native.Nat.{_-_}
 use mathlib.Core.Path.{sym}
 use borrow.Author.Needs.{needs}
 use lib.Seq.{length-take-le}
@@ -32,7 +31,7 @@ array-share-prefix-text : tie.Need-array-share-prefix-text
 array-share-prefix-text c = let t = c .before .before .before .before in listed-within _ _ (t .list-tape .result) (t .list-tape .ensures) (c .before .count .given .1)
 
 slice-aggregate-write-all : tie.Need-slice-aggregate-write-all
-slice-aggregate-write-all c = 
+slice-aggregate-write-all c =
     let t = c .before .before .before .before .before in
     sym (length-take-le (c .before .before .count .given .0 .0) (t .list-tape .last .1 .0) (listed-within _ _ (t .list-tape .result) (t .list-tape .ensures) (c .before .before .count .given .1)))
 

@@ -29,7 +29,7 @@ array-share-prefix-path : tie.Need-array-share-prefix-path
 array-share-prefix-path c = search needs
 
 slice-aggregate-write-all-2 : tie.Need-slice-aggregate-write-all-2
-slice-aggregate-write-all-2 c = 
+slice-aggregate-write-all-2 c =
     let a = c .before .before .before .before .before in
     sym (length-take-le (a .arg .result - 4) (a .arg .last .1 .0) (omega (arith, a .arg .ensures .0)))
 
