@@ -1,2 +1,3 @@
 mod Listed
+mod Examples
 pub mod LineLaws

@@ -6,19 +6,15 @@ use native.Mathlib.Omega.{arith}
 use mathlib.Core.Path.{_≡_, refl, sym, ap, _∙_}
 use mathlib.Core.Bool.{Bool, true, false, cond}
 use mathlib.Core.List.{List, [], _∷_, _++_, map}
-use borrow.Author.Tests.{lt-ltb, le-ltb, ltb-false}
+use borrow.Author.Tests.{lt-ltb, le-ltb}
 use lib.Dec.{ltb}
 use lib.ListN.{length, drop, getD, set, length-append, length-map, drop-of-length-le}
 use lib.Seq.{length-sets, drop-cons}
 use Rattle.lists.specs.Text.{ascii}
-use Rattle.lists.proofs.BufferLaws.{length-put, sets-append}
+use Rattle.lists.proofs.BufferLaws.{sets-append}
 use Rattle.lists.proofs.LoopLaws.{Putting, put-begun, put-one, put-done}
 use Rattle.refusal.specs.declared.Refusal.{Refusal}
-use Rattle.refusal.specs.declared.Reason.the-variants.{NoRoom}
-use Rattle.refusal.specs.declared.Put.{Put}
-use Rattle.refusal.specs.declared.Put.the-variants.{Count}
-use Rattle.refusal.specs.Refusal.{numberOf, Outcome, refused, accepted, refusalAt, puts, putAnswer, Written}
-use Rattle.refusal.proofs.OutcomeLaws.{accepted-next, mapped-accepted}
+use Rattle.refusal.specs.Refusal.{numberOf, refused}
 use Rattle.header.specs.declared.Fields.{Fields}
 use Rattle.header.specs.Header.{shownName}
 use Rattle.header.proofs.HeaderLaws.{width-shown}
@@ -26,8 +22,7 @@ use Rattle.file.specs.declared.Loaded.{Loaded}
 use Rattle.file.specs.declared.FileAnswer.{FileAnswer}
 use Rattle.file.specs.declared.FileAnswer.the-variants.{Accepted, Refused}
 use Rattle.file.specs.File.{dataBytes}
-use Rattle.file.specs.Reading.{FileRead}
-use Rattle.listing.specs.Listing.{digit, digits, decimal, hexadecimal, field, newline, printed, fileLine, refusalLine, line, fileIn, heading, listing, listTape}
+use Rattle.listing.specs.Listing.{digit, digits, decimal, hexadecimal, field, newline, printed, fileLine, refusalLine, heading}
 use Rattle.listing.specs.Lines.{Appended, answerText}
 
 -- ---- Appended
@@ -172,25 +167,3 @@ pub width-text : (a : FileAnswer) (header : List ℕ) → length (answerText a h
 unfolding ascii
 width-text (Accepted l) header = simp length-append (omega (arith, width-file (l .fields) (dataBytes (l .fields)) (shownName header) (width-shown header)))
 width-text (Refused r) header = simp length-append (omega (arith, width-refusal (numberOf (r .reason)) (r .block) (r .place)))
-
-width-line : (o : Outcome FileRead) → length (line o) ≤ 71
-width-line (refused number block place) = width-refusal number block place
-width-line (accepted f) = omega (arith, width-file (f .loaded .fields) (length (f .bytes)) (shownName (f .header)) (width-shown (f .header)))
-
--- with room for 97 bytes every file is listed
-pub listed-enough : (room : ℕ) (file : List ℕ) → 97 ≤ room → listTape room file ≡ accepted (listing file)
-unfolding listTape listing ascii
-listed-enough room file h =
-    let w : length (listing file) ≤ 97 = simp length-append (omega (arith, width-line (fileIn file))) in
-    rw (le-ltb room (length (listing file)) (omega arith))
-
--- the text that is put lies within the buffer
-pub listed-within : (file out : List ℕ) (a : Put) {n : ℕ} {out′ : List ℕ} → Written (listTape (length out) file) out a out′ → a ≡ Count n → n ≤ length out′
-unfolding listTape
-listed-within file out a {n} {out′} w e =
-    let m = mapped-accepted length (listTape (length out) file) (sym (ap putAnswer e) ∙ w .0) in
-    let s = accepted-next (ltb (length out) (length (listing file))) (refusalAt NoRoom 0) (accepted (listing file)) (m .0) (m .1) in
-    let q : listing file ≡ m .0 = let z = s .1 in cc in
-    let h : length (listing file) ≤ length out = ltb-false (length out) (length (listing file)) (s .0) in
-    let l : length out′ ≡ length out = ap length (w .1) ∙ length-put out 0 (puts (listTape (length out) file)) in
-    omega (arith, m .2, ap length q)

@@ -7,13 +7,13 @@ use mathlib.Core.List.{List, _++_}
 use borrow.Author.Tests.{lt-ltb, le-ltb}
 use lib.Dec.{ltb}
 use lib.ListN.{length, take, replicate, length-replicate}
+use lib.Seq.{length-take-le}
 use Rattle.lists.specs.Buffer.{putAt}
 use Rattle.lists.proofs.BufferLaws.{length-put, part-put, put-room, put-whole}
-use Rattle.refusal.specs.declared.Reason.the-variants.{WrongSize, NoRoom}
+use Rattle.refusal.specs.declared.Reason.the-variants.{WrongSize}
 use Rattle.refusal.specs.declared.Refusal.{Refusal}
-use Rattle.refusal.specs.declared.Put.the-variants.{Count, Refused as PutRefused}
-use Rattle.refusal.specs.Refusal.{Outcome, accepted, refusalAt, told, mapped, andThen, puts, Written}
-use Rattle.refusal.proofs.OutcomeLaws.{mapped-refused, told-refused, puts-refused, accepted-next, then-accepted, mapped-told, mapped-accepted, written-refused, written-accepted}
+use Rattle.refusal.specs.Refusal.{Outcome, accepted, refusalAt, told, mapped, andThen, puts}
+use Rattle.refusal.proofs.OutcomeLaws.{mapped-refused, told-refused, puts-refused, accepted-next, then-accepted, mapped-told, mapped-accepted}
 use Rattle.pulse.specs.Pulse.{fixed, classes}
 use Rattle.header.specs.Header.{shownName}
 use Rattle.file.specs.declared.Loaded.{Loaded}
@@ -28,8 +28,9 @@ use Rattle.tap.specs.declared.TapAnswer.the-variants.{Accepted as Held, Refused
 use Rattle.tap.specs.Reading.{Tap, infoOf, durationsOf, tapOf, readTap, tapAnswer}
 use Rattle.tap.specs.Reading as tap
 use Rattle.tap.proofs.DataLaws.{read-enough, width-tap}
-use Rattle.listing.specs.Listing.{fileIn, fileLine, line, heading, listing, listTape}
-use Rattle.listing.specs.Lines.{Appended, answerLine, answerText}
+use Rattle.listing.specs.Listing.{fileIn, fileLine, line, heading, listing}
+use Rattle.listing.specs.Lines.{Counts, Appended, answerLine, answerText}
+use Rattle.listing.proofs.LineLaws.{append-length}
 
 -- ---- Loading
 
@@ -114,19 +115,11 @@ pub listing-told : (file h : List ℕ) → length h ≡ 192 → (a : FileAnswer)
 unfolding listing
 listing-told file h l a h′ k = ap (λ xs. heading ++ xs) (sym (line-told file h l a h′ k))
 
-module _ (file out : List ℕ) {n : ℕ} {before text told : List ℕ} (e : told ≡ listing file) (a : Appended before 0 told n text) (room : 128 ≤ length before)
-    (small : length told ≤ 128) where
-  pub text-length : n ≡ length (listing file)
-  text-length = a .stop ∙ zero-add (length told) ∙ ap length e
-
-  pub text-front : take n text ≡ listing file
-  text-front = rw (a .stop, zero-add, a .put, put-room before 0 told (omega arith)) (part-put before 0 told (omega arith)) ∙ e
-
-  pub no-room : {r : Refusal} → length out < n → r ≡ refusalAt NoRoom 0 → Written (listTape (length out) file) out (PutRefused r) out
-  unfolding listTape
-  no-room h = written-refused (listTape (length out) file) out (rw (lt-ltb (length out) (length (listing file)) (rw (← text-length) h)))
-
-  pub listed : {out′ : List ℕ} → n ≤ length out → out′ ≡ putAt out 0 (take n text) → Written (listTape (length out) file) out (Count n) out′
-  unfolding listTape
-  listed h q =
-      written-accepted (listTape (length out) file) out (rw (le-ltb (length out) (length (listing file)) (rw (← text-length) h))) (sym text-length) (q ∙ ap (putAt out 0) text-front)
+-- what is put where there is room for every text
+pub listed : (file out : List ℕ) {n : ℕ} {text out′ : List ℕ} → text ≡ listing file → Appended out 0 text n out′ → length out ≡ 128 → length text ≤ 128
+    → (n ≡ length (listing file)) × ((out′ ≡ putAt out 0 (listing file)) × Counts n out′)
+listed file out {n} {text} {out′} e a l w =
+    let s : n ≡ length text = a .stop ∙ zero-add (length text) in
+    let p : out′ ≡ putAt out 0 text = a .put ∙ put-room out 0 text (omega arith) in
+    let k : n ≤ length out′ = omega (arith, append-length a) in
+    (s ∙ ap length e, (p ∙ ap (putAt out 0) e, (k, sym (length-take-le n out′ k))))

@@ -5,7 +5,7 @@ use mathlib.Core.List.{List, [], _∷_, _++_, map}
 use lib.Dec.{ltb}
 use lib.ListN.{length}
 use Rattle.lists.specs.Text.{ascii}
-use Rattle.refusal.specs.declared.Reason.the-variants.{WrongSize, NoRoom}
+use Rattle.refusal.specs.declared.Reason.the-variants.{WrongSize}
 use Rattle.refusal.specs.Refusal.{Outcome, refused, accepted, refuse, andThen}
 use Rattle.pulse.specs.Pulse.{fixed, classes}
 use Rattle.header.specs.declared.Fields.{Fields}
@@ -68,7 +68,3 @@ heading = ascii "type start end bytes name\n"
 
 unfoldable pub listing : (file : List ℕ) → List ℕ
 listing file = heading ++ line (fileIn file)
-
--- what is put into `room` places, or refusal 2
-unfoldable pub listTape : (room : ℕ) (file : List ℕ) → Outcome (List ℕ)
-listTape room file = cond (ltb room (length (listing file))) (refuse NoRoom 0) (accepted (listing file))

@@ -7,7 +7,6 @@
 //   refused 10 0 0
 use file::FileAnswer;
 use header::Fields;
-use refusal::Put;
 use refusal::Reason;
 use refusal::Refusal;
 use tap::TapAnswer;
@@ -16,11 +15,11 @@ ghost use mathlib.Core.Path.{_≡_};
 ghost use mathlib.Core.List.{_∷_, [], _++_, map};
 ghost use lib.ListN.{length};
 ghost use Rattle.lists.specs.Buffer.{putAt};
-ghost use Rattle.refusal.specs.Refusal.{numberOf, mapped, puts, Written};
+ghost use Rattle.refusal.specs.Refusal.{numberOf, mapped, puts};
 ghost use Rattle.file.specs.File.{dataBytes};
 ghost use Rattle.file.specs.Reading.{loadedOf, headerOf, fileAnswer};
-ghost use Rattle.listing.specs.Listing.{digit, digits, decimal, hexadecimal, field, printed, fileLine, refusalLine, fileIn, listTape};
-ghost use Rattle.listing.specs.Lines.{Appended, answerText};
+ghost use Rattle.listing.specs.Listing.{digit, digits, decimal, hexadecimal, field, printed, fileLine, refusalLine, fileIn, listing};
+ghost use Rattle.listing.specs.Lines.{Appended, Counts, answerText};
 
 // The longest input that is listed: 16 KiB.
 pub const MOST_INPUT: usize = 16_384;
@@ -39,20 +38,16 @@ const FIRST_PRINTED: u8 = 0x20;
 
 const LAST_PRINTED: u8 = 0x7e;
 
-// Lists the program file at the beginning of a TAP file: puts the text, and answers the number of bytes put. It refuses an output that is
-// too short for the text; 128 bytes are always enough. Why a file is refused, the text says.
-pub fn list_tape(file: &[u8], out: &mut [u8]) -> Put
-    ensures { λ r. ⌜ Written (listTape (length (now (out .entry))) (now (file .entry))) (now (out .entry)) r (now (out .exit)) ⌝ }
+// Lists the program file at the beginning of a TAP file: puts the text in front, and answers the number of bytes put. Every text fits
+// the buffer. Why a file is refused, the text says.
+pub fn list_tape(file: &[u8], out: &mut [u8; MOST_TEXT]) -> usize
+    ensures count { λ r. ⌜ r ≡ length (listing (now (file .entry))) ⌝ }
+    ensures text { λ _. ⌜ now (out .exit) ≡ putAt (now (out .entry)) 0 (listing (now (file .entry))) ⌝ }
+    ensures part { λ r. ⌜ Counts r (now (out .exit)) ⌝ }
 {
     let mut header = [0u8; header::HEADER_BYTES];
-    let mut text = [0u8; MOST_TEXT];
     let answer = load(file, &mut header);
-    let n = put_listing(answer, &header, &mut text);
-    if out.len() < n {
-        return Put::Refused(refusal::at(Reason::NoRoom, 0));
-    }
-    lists::put_bytes(&text[..n], out, 0);
-    Put::Count(n)
+    put_listing(answer, &header, out)
 }
 
 // Reads the program file at the beginning of a TAP file and keeps its header.

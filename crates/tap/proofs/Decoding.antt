@@ -10,7 +10,7 @@ use lib.ListN.{length, drop, set, length-drop}
 use lib.Seq.{sets, take-all}
 use Rattle.lists.specs.Places.{part}
 use Rattle.lists.proofs.BufferLaws.{put-room}
-use Rattle.lists.proofs.LoopLaws.{Putting, put-begun, put-one, put-done}
+use Rattle.lists.proofs.LoopLaws.{Putting, put-one, put-done}
 use Rattle.refusal.specs.declared.Reason.the-variants.{NoRoom, WrongTapHeader, CutLongForm}
 use Rattle.refusal.specs.declared.Refusal.{Refusal}
 use Rattle.refusal.specs.declared.Put.{Put}
@@ -91,9 +91,6 @@ module _ (v : ℕ) (bytes : List ℕ) where
       pub sound : Sound i
       pub room : k + length (puts (from v bytes i)) ≤ length before
       pub put : Putting before 0 (puts (durationsIn v 0 bytes)) out k (puts (from v bytes i))
-
-    pub durations-begun : Sound 0 → length (puts (durationsIn v 0 bytes)) ≤ length before → DurationsPut before 0 0
-    durations-begun s h = record { within = omega arith; sound = s; room = omega arith; put = put-begun before 0 0 _ _ refl refl }
 
     module _ {out : List ℕ} {i k : ℕ} (u : DurationsPut out i k) where
       pub durations-step : i < length bytes → Step i

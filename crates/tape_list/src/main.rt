@@ -1,7 +1,6 @@
 // Lists the program file that a TAP file holds: tape_list < FILE
 use libc::STDIN_FILENO;
 use libc::STDOUT_FILENO;
-use refusal::Put;
 
 // One byte more than is listed, so that a longer input is seen to be too long.
 const INPUT_ROOM: usize = listing::MOST_INPUT + 1;
@@ -10,7 +9,6 @@ fn main() {
     let mut file = [0u8; INPUT_ROOM];
     let mut text = [0u8; listing::MOST_TEXT];
     let n = io::read_full(STDIN_FILENO, &mut file);
-    if let Put::Count(count) = listing::list_tape(&file[..n], &mut text) {
-        io::write_all(STDOUT_FILENO, &text[..count]);
-    }
+    let count = listing::list_tape(&file[..n], &mut text);
+    io::write_all(STDOUT_FILENO, &text[..count]);
 }

@@ -1,6 +1,5 @@
 // Lists TAP files that an independent tool made. The arguments are their names; the output is compared with the listings expected.
 use libc::STDOUT_FILENO;
-use refusal::Put;
 
 // One byte more than is listed, so that a longer file is seen to be too long.
 const FILE_ROOM: usize = listing::MOST_INPUT + 1;
@@ -41,7 +40,6 @@ fn list_file(fd: i32) {
     let mut file = [0u8; FILE_ROOM];
     let mut text = [0u8; listing::MOST_TEXT];
     let n = io::read_full(fd, &mut file);
-    if let Put::Count(count) = listing::list_tape(&file[..n], &mut text) {
-        io::write_all(STDOUT_FILENO, &text[..count]);
-    }
+    let count = listing::list_tape(&file[..n], &mut text);
+    io::write_all(STDOUT_FILENO, &text[..count]);
 }
