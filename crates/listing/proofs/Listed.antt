@@ -8,7 +8,7 @@ use borrow.Author.Tests.{lt-ltb, le-ltb}
 use lib.Dec.{ltb}
 use lib.ListN.{length, take, replicate, length-replicate}
 use lib.Seq.{length-take-le}
-use Rattle.lists.specs.Buffer.{putAt}
+use Rattle.lists.specs.Buffer.{putAt, Counts}
 use Rattle.lists.proofs.BufferLaws.{length-put, part-put, put-room, put-whole}
 use Rattle.refusal.specs.declared.Reason.the-variants.{WrongSize}
 use Rattle.refusal.specs.declared.Refusal.{Refusal}
@@ -29,7 +29,7 @@ use Rattle.tap.specs.Reading.{Tap, infoOf, durationsOf, tapOf, readTap, tapAnsw
 use Rattle.tap.specs.Reading as tap
 use Rattle.tap.proofs.DataLaws.{read-enough, width-tap}
 use Rattle.listing.specs.Listing.{fileIn, fileLine, line, heading, listing}
-use Rattle.listing.specs.Lines.{Counts, Appended, answerLine, answerText}
+use Rattle.listing.specs.Lines.{Appended, answerLine, answerText}
 use Rattle.listing.proofs.LineLaws.{append-length}
 
 -- ---- Loading

@@ -1,8 +1,8 @@
--- What the private functions of this crate come to, and what a caller needs to take the text out of its buffer; no part of the format.
-use Prim.Native.Nat.{ℕ, _+_, _≤_}
+-- What the private functions of this crate come to; no part of the format, and no promise to a caller cites it.
+use Prim.Native.Nat.{ℕ, _+_}
 use mathlib.Core.Path.{_≡_}
 use mathlib.Core.List.{List, _++_}
-use lib.ListN.{length, take}
+use lib.ListN.{length}
 use lib.Seq.{sets}
 use Rattle.refusal.specs.Refusal.{numberOf}
 use Rattle.header.specs.Header.{shownName}
@@ -10,10 +10,6 @@ use Rattle.file.specs.declared.FileAnswer.{FileAnswer}
 use Rattle.file.specs.declared.FileAnswer.the-variants.{Accepted, Refused}
 use Rattle.file.specs.File.{dataBytes}
 use Rattle.listing.specs.Listing.{fileLine, refusalLine, heading}
-
--- n counts elements at the front of a buffer
-abbrev pub Counts : (n : ℕ) (buffer : List ℕ) → Type 0
-Counts n buffer = (n ≤ length buffer) × (n ≡ length (take n buffer))
 
 -- a text is put from `at` on, and r is the place after it
 pub record Appended (out : List ℕ) (at : ℕ) (text : List ℕ) (r : ℕ) (out′ : List ℕ) : Type 0 where

@@ -14,12 +14,12 @@ ghost use Prim.Native.Nat.{_+_, _≤_, _<_};
 ghost use mathlib.Core.Path.{_≡_};
 ghost use mathlib.Core.List.{_∷_, [], _++_, map};
 ghost use lib.ListN.{length};
-ghost use Rattle.lists.specs.Buffer.{putAt};
+ghost use Rattle.lists.specs.Buffer.{putAt, Counts};
 ghost use Rattle.refusal.specs.Refusal.{numberOf, mapped, puts};
 ghost use Rattle.file.specs.File.{dataBytes};
 ghost use Rattle.file.specs.Reading.{loadedOf, headerOf, fileAnswer};
 ghost use Rattle.listing.specs.Listing.{digit, digits, decimal, hexadecimal, field, printed, fileLine, refusalLine, fileIn, listing};
-ghost use Rattle.listing.specs.Lines.{Appended, Counts, answerText};
+ghost use Rattle.listing.specs.Lines.{Appended, answerText};
 
 // The longest input that is listed: 16 KiB.
 pub const MOST_INPUT: usize = 16_384;
