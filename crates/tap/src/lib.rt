@@ -27,8 +27,10 @@ ghost use Rattle.tap.specs.Forms.{versionAnswer, formBytes, byteUnits, f
 
 const HEADER_BYTES: usize = 20;
 
-const LETTER_BYTES: usize = 12;
+// The header of version 0 with no data.
+const HEADER: [u8; HEADER_BYTES] = *b"C64-TAPE-RAW\0\0\0\0\0\0\0\0";
 
+// Where the letters end and the version stands.
 const VERSION_AT: usize = 12;
 
 const RESERVED_AT: usize = 13;
@@ -125,7 +127,8 @@ fn wrong_letters(file: &[u8]) -> bool
     if file.len() < HEADER_BYTES {
         return true;
     }
-    !check::same(&file[..LETTER_BYTES], b"C64-TAPE-RAW")
+    let header = HEADER;
+    !check::same(&file[..VERSION_AT], &header[..VERSION_AT])
 }
 
 // Whether a reserved byte is not zero, or the number of data bytes is wrong.
@@ -354,7 +357,7 @@ fn write_data(version: u8, durations: &[u32], n: usize, out: &mut [u8]) -> Put
 fn tap_header(version: u8, n: usize) -> [u8; HEADER_BYTES]
     ensures { λ r. ⌜ r ≡ tapHeader version n ⌝ }
 {
-    let mut header = *b"C64-TAPE-RAW\0\0\0\0\0\0\0\0";
+    let mut header = HEADER;
     header[VERSION_AT] = version;
     header[COUNT_AT] = low_byte(n);
     header[COUNT_AT + 1] = low_byte(n / BYTE_VALUES);

@@ -1,4 +1,5 @@
 -- `tap::wrong_letters` meets its contract: too few bytes, or other letters in front.
+use Prim.Native.Nat.{_-_}
 use native.Mathlib.Omega.{arith}
 use mathlib.Core.Path.{sym}
 use borrow.Author.Needs.{needs}
@@ -15,6 +16,9 @@ returns c = too-short (now (c .before .before .args .file)) (c .if1 .taken)
 slice-aggregate-same : tie.Need-slice-aggregate-same
 slice-aggregate-same c = let a = c .before .before .before .args in sym (length-take-le 12 (now (a .file)) (omega arith))
 
+array-share-prefix-header : tie.Need-array-share-prefix-header
+array-share-prefix-header c = search needs
+
 slice-aggregate-same-2 : tie.Need-slice-aggregate-same-2
 slice-aggregate-same-2 c = search needs
 
@@ -30,4 +34,10 @@ returns-2 c =
 pub wrong-letters-spec : {M : Type 1} → statement M
 wrong-letters-spec =
     tie.close
-    (tie.spec returns slice-aggregate-same slice-aggregate-same-2 same-requires returns-2)
+    (tie.spec
+    returns
+    slice-aggregate-same
+    array-share-prefix-header
+    slice-aggregate-same-2
+    same-requires
+    returns-2)
