@@ -74,6 +74,15 @@ pub fn read_file(strip: &[u32], from: usize, header: &mut [u8], bytes: &mut [u8]
     }
 }
 
+// How many bytes the data block has; none where the end is not above the start.
+pub fn data_bytes(fields: Fields) -> usize
+    ensures { λ r. ⌜ r ≡ dataBytes fields ⌝ }
+{
+    let start = fields.start as usize;
+    let end = fields.end as usize;
+    if end < start { 0 } else { end - start }
+}
+
 // ---- Writing
 
 // Writes the two blocks.
@@ -114,15 +123,6 @@ fn wrong_addresses(fields: Fields) -> bool
     let start = fields.start as usize;
     let end = fields.end as usize;
     (end <= start) | (start + block::MOST_BYTES < end)
-}
-
-// How many bytes the data block has; none where the end is not above the start.
-pub fn data_bytes(fields: Fields) -> usize
-    ensures { λ r. ⌜ r ≡ dataBytes fields ⌝ }
-{
-    let start = fields.start as usize;
-    let end = fields.end as usize;
-    if end < start { 0 } else { end - start }
 }
 
 // ---- Reading

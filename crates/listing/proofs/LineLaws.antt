@@ -1,7 +1,8 @@
 -- Laws of lines: texts put one after the other, digits, and how long a listing is.
-use Prim.Native.Nat.{ℕ, zero, suc, _+_, _-_, _/_, _%_, _≤_, _<_}
-use native.Mathlib.Nat.{add-zero}
+use Prim.Native.Nat.{ℕ, zero, suc, _+_, _-_, _*_, _/_, _%_, _^_, _≤_, _<_}
+use native.Mathlib.Nat.{add-zero, pow-suc}
 use native.Mathlib.Numerals.{add-one}
+use native.Mathlib.Decide.{decLt}
 use native.Mathlib.Omega.{arith}
 use mathlib.Core.Path.{_≡_, refl, sym, ap, _∙_}
 use mathlib.Core.Bool.{Bool, true, false, cond}
@@ -14,7 +15,7 @@ use Rattle.lists.specs.Text.{ascii}
 use Rattle.lists.proofs.BufferLaws.{sets-append}
 use Rattle.lists.proofs.LoopLaws.{Putting, put-begun, put-one, put-done}
 use Rattle.refusal.specs.declared.Refusal.{Refusal}
-use Rattle.refusal.specs.Refusal.{numberOf, refused}
+use Rattle.refusal.specs.Refusal.{numberOf, Outcome, refused, accepted}
 use Rattle.header.specs.declared.Fields.{Fields}
 use Rattle.header.specs.Header.{shownName}
 use Rattle.header.proofs.HeaderLaws.{width-shown}
@@ -22,7 +23,8 @@ use Rattle.file.specs.declared.Loaded.{Loaded}
 use Rattle.file.specs.declared.FileAnswer.{FileAnswer}
 use Rattle.file.specs.declared.FileAnswer.the-variants.{Accepted, Refused}
 use Rattle.file.specs.File.{dataBytes}
-use Rattle.listing.specs.Listing.{digit, digits, decimal, hexadecimal, field, newline, printed, fileLine, refusalLine, heading}
+use Rattle.file.specs.Reading.{FileRead}
+use Rattle.listing.specs.Listing.{digit, digits, decimal, hexadecimal, field, newline, printed, fileLine, refusalLine, line, fileIn, heading, listing}
 use Rattle.listing.specs.Lines.{Appended, answerText}
 
 -- ---- Appended
@@ -57,6 +59,30 @@ pub digits-more : (most n : ℕ) → (most ≡ 0 → ⊥) → 10 ≤ n → digit
 unfolding digits
 digits-more zero n z h = absurd (z refl)
 digits-more (suc most) n z h = let e : suc most - 1 ≡ most = omega arith in rw (e, le-ltb n 10 h)
+
+-- the number that digits spell, after a number that was spelt before them
+abbrev spelt : ℕ → List ℕ → ℕ
+spelt n [] = n
+spelt n (c ∷ text) = spelt (n * 10 + (c - 0x30)) text
+
+spelt-last : (n : ℕ) (text : List ℕ) (c : ℕ) → spelt n (text ++ c ∷ []) ≡ spelt n text * 10 + (c - 0x30)
+spelt-last n [] c = refl
+spelt-last n (b ∷ text) c = spelt-last (n * 10 + (b - 0x30)) text c
+
+digit-spelt : (d : ℕ) → d < 10 → digit d - 0x30 ≡ d
+unfolding digit
+digit-spelt d h = rw (lt-ltb d 10 h) (omega arith)
+
+-- the digits of a number spell it
+pub digits-spell : (most n : ℕ) → n < 10 ^ most → spelt 0 (digits most n) ≡ n
+unfolding digits
+digits-spell zero n h = omega arith
+digits-spell (suc most) n h = elim (decLt n 10) [
+  | yes l ↦ rw (lt-ltb n 10 l, digit-spelt n l) (omega arith)
+  | no l ↦
+      let b : n < 10 ^ most * 10 = rw (pow-suc 10 most) at h in
+      rw (le-ltb n 10 (omega arith), spelt-last 0 (digits most (n / 10)) (digit (n % 10)), digit-spelt (n % 10) (omega arith), digits-spell most (n / 10) (omega arith)) (omega arith)
+]
 
 pub width-digits : (most n : ℕ) → length (digits most n) ≤ most
 unfolding digits
@@ -167,3 +193,12 @@ pub width-text : (a : FileAnswer) (header : List ℕ) → length (answerText a h
 unfolding ascii
 width-text (Accepted l) header = simp length-append (omega (arith, width-file (l .fields) (dataBytes (l .fields)) (shownName header) (width-shown header)))
 width-text (Refused r) header = simp length-append (omega (arith, width-refusal (numberOf (r .reason)) (r .block) (r .place)))
+
+width-line : (o : Outcome FileRead) → length (line o) ≤ 71
+width-line (refused number block place) = width-refusal number block place
+width-line (accepted f) = omega (arith, width-file (f .loaded .fields) (length (f .bytes)) (shownName (f .header)) (width-shown (f .header)))
+
+-- every listing fits 97 bytes
+pub width-listing : (file : List ℕ) → length (listing file) ≤ 97
+unfolding listing ascii
+width-listing file = simp length-append (omega (arith, width-line (fileIn file)))

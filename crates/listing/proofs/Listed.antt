@@ -116,7 +116,7 @@ unfolding listing
 listing-told file h l a h′ k = ap (λ xs. heading ++ xs) (sym (line-told file h l a h′ k))
 
 -- what is put where there is room for every text
-pub listed : (file out : List ℕ) {n : ℕ} {text out′ : List ℕ} → text ≡ listing file → Appended out 0 text n out′ → length out ≡ 128 → length text ≤ 128
+pub listed : (file out : List ℕ) {n : ℕ} {text out′ : List ℕ} → text ≡ listing file → Appended out 0 text n out′ → length out ≡ 97 → length text ≤ 97
     → (n ≡ length (listing file)) × ((out′ ≡ putAt out 0 (listing file)) × Counts n out′)
 listed file out {n} {text} {out′} e a l w =
     let s : n ≡ length text = a .stop ∙ zero-add (length text) in

@@ -19,7 +19,7 @@ use Rattle.tap.specs.Reading.{tapOf}
 unfoldable pub digit : ℕ → ℕ
 digit d = cond (ltb d 10) (0x30 + d) (0x37 + d)
 
--- the last `most` decimal digits, without zeros in front
+-- the decimal digits of a number that has at most `most` of them
 unfoldable pub digits : (most n : ℕ) → List ℕ
 digits zero n = []
 digits (suc most) n = let front = digits most (n / 10) in cond (ltb n 10) (digit n ∷ []) (front ++ digit (n % 10) ∷ [])
@@ -28,7 +28,7 @@ digits (suc most) n = let front = digits most (n / 10) in cond (ltb n 10) (digit
 abbrev pub decimal : ℕ → List ℕ
 decimal n = digits 20 n
 
--- an address, as four digits
+-- a 16-bit address, as four digits
 unfoldable pub hexadecimal : ℕ → List ℕ
 hexadecimal n = digit (n / 4096) ∷ digit (n / 256 % 16) ∷ digit (n / 16 % 16) ∷ digit (n % 16) ∷ []
 
@@ -59,7 +59,7 @@ line (accepted f) = fileLine (f .loaded .fields) (length (f .bytes)) (shownName 
 
 -- ---- The listing
 
--- the program file from place 0 of a TAP file of at most 16 KiB; there is room for every header and for the data of every file
+-- the program file from place 0 of a TAP file of at most 16 KiB (longer: refusal 1); there is room for every header and the data of every file
 unfoldable pub fileIn : (file : List ℕ) → Outcome FileRead
 fileIn file = cond (ltb 16384 (length file)) (refuse WrongSize 0) (andThen (tapOf file) (λ t. readFile (classes fixed (t .durations)) 192 8192 0))
 

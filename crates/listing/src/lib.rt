@@ -22,13 +22,16 @@ ghost use Rattle.listing.specs.Listing.{digit, digits, decimal, hexadeci
 ghost use Rattle.listing.specs.Lines.{Appended, answerText};
 
 // The longest input that is listed: 16 KiB.
-pub const MOST_INPUT: usize = 16_384;
+const MOST_INPUT: usize = 16_384;
 
-// Room for every listing.
-pub const MOST_TEXT: usize = 128;
+// Room for an input: one byte more, so that a longer one is seen to be too long.
+pub const INPUT_ROOM: usize = MOST_INPUT + 1;
 
-// The most durations that such an input holds: one for each byte after the 20 of its header.
-const MOST_DURATIONS: usize = MOST_INPUT - 20;
+// The longest listing: the heading, and a refusal with three numbers of twenty digits.
+pub const MOST_TEXT: usize = 97;
+
+// Room for the durations of such an input: one for each data byte.
+const STRIP_ROOM: usize = MOST_INPUT - tap::HEADER_BYTES;
 
 // The most digits of a 64-bit number.
 const MOST_DIGITS: usize = 20;
@@ -38,8 +41,8 @@ const FIRST_PRINTED: u8 = 0x20;
 
 const LAST_PRINTED: u8 = 0x7e;
 
-// Lists the program file at the beginning of a TAP file: puts the text in front, and answers the number of bytes put. Every text fits
-// the buffer. Why a file is refused, the text says.
+// Lists the program file of a TAP file, from place 0 on: puts the text in front, and answers the number of bytes put. Where the file is
+// refused the text says so; every text fits the buffer.
 pub fn list_tape(file: &[u8], out: &mut [u8; MOST_TEXT]) -> usize
     ensures count { λ r. ⌜ r ≡ length (listing (now (file .entry))) ⌝ }
     ensures text { λ _. ⌜ now (out .exit) ≡ putAt (now (out .entry)) 0 (listing (now (file .entry))) ⌝ }
@@ -50,7 +53,7 @@ pub fn list_tape(file: &[u8], out: &mut [u8; MOST_TEXT]) -> usize
     put_listing(answer, &header, out)
 }
 
-// Reads the program file at the beginning of a TAP file and keeps its header.
+// Reads the program file of a TAP file and keeps its header.
 fn load(file: &[u8], header: &mut [u8]) -> FileAnswer
     requires { ⌜ length (now header) ≡ 192 ⌝ }
     ensures answer { λ r. ⌜ fileAnswer r ≡ mapped loadedOf (fileIn (now (file .entry))) ⌝ }
@@ -59,7 +62,7 @@ fn load(file: &[u8], header: &mut [u8]) -> FileAnswer
     if MOST_INPUT < file.len() {
         return FileAnswer::Refused(refusal::at(Reason::WrongSize, 0));
     }
-    let mut strip = [0u32; MOST_DURATIONS];
+    let mut strip = [0u32; STRIP_ROOM];
     let mut bytes = [0u8; block::MOST_BYTES];
     match tap::read_tap(file, &mut strip) {
         TapAnswer::Refused(r) => FileAnswer::Refused(r),
@@ -73,7 +76,7 @@ fn load(file: &[u8], header: &mut [u8]) -> FileAnswer
 // ---- Text. Each function puts a text from `at` on and answers the place after it.
 
 fn put_listing(answer: FileAnswer, header: &[u8], out: &mut [u8]) -> usize
-    requires { ⌜ 128 ≤ length (now out) ⌝ }
+    requires { ⌜ 97 ≤ length (now out) ⌝ }
     ensures { λ r. ⌜ Appended (now (out .entry)) 0 (answerText answer (now (header .entry))) r (now (out .exit)) ⌝ }
 {
     let at = put_text(b"type start end bytes name\n", out, 0);
@@ -86,27 +89,29 @@ fn put_listing(answer: FileAnswer, header: &[u8], out: &mut [u8]) -> usize
     }
 }
 
+// It needs 8 bytes for the word and 21 for each number.
 fn put_refusal(r: Refusal, out: &mut [u8], at: usize) -> usize
     requires { ⌜ at + 71 ≤ length (now out) ⌝ }
     ensures { λ s. ⌜ Appended (now (out .entry)) at (refusalLine (numberOf (r .reason)) (r .block) (r .place)) s (now (out .exit)) ⌝ }
 {
     let reason = r.reason;
-    let number = put_text(b"refused ", out, at);
-    let block = put_number(refusal::number(reason) as u64, b' ', out, number);
-    let place = put_number(r.block as u64, b' ', out, block);
-    put_number(r.place as u64, b'\n', out, place)
+    let after_word = put_text(b"refused ", out, at);
+    let after_number = put_number(refusal::number(reason) as u64, b' ', out, after_word);
+    let after_block = put_number(r.block as u64, b' ', out, after_number);
+    put_number(r.place as u64, b'\n', out, after_block)
 }
 
+// It needs 21 bytes for each number, 5 for each address, those of the name and the end of the line.
 fn put_fields(fields: Fields, name: &[u8], out: &mut [u8], at: usize) -> usize
     requires { ⌜ at + 53 + length (now name) ≤ length (now out) ⌝ }
     ensures { λ r. ⌜ Appended (now (out .entry)) at (fileLine fields (dataBytes fields) (now (name .entry))) r (now (out .exit)) ⌝ }
 {
-    let start = put_number(fields.kind as u64, b' ', out, at);
-    let end = put_address(fields.start, out, start);
-    let count = put_address(fields.end, out, end);
-    let shown = put_number(file::data_bytes(fields) as u64, b' ', out, count);
-    let line_end = put_name(name, out, shown);
-    put_text(b"\n", out, line_end)
+    let after_kind = put_number(fields.kind as u64, b' ', out, at);
+    let after_start = put_address(fields.start, out, after_kind);
+    let after_end = put_address(fields.end, out, after_start);
+    let after_count = put_number(file::data_bytes(fields) as u64, b' ', out, after_end);
+    let after_name = put_name(name, out, after_count);
+    put_text(b"\n", out, after_name)
 }
 
 fn put_text(text: &[u8], out: &mut [u8], at: usize) -> usize
@@ -127,7 +132,7 @@ fn put_number(n: u64, after: u8, out: &mut [u8], at: usize) -> usize
     end + 1
 }
 
-// The last digits of a number, without zeros in front.
+// The digits of a number that has at most so many.
 fn put_digits(most: usize, n: u64, out: &mut [u8], at: usize) -> usize
     requires { ⌜ at + most ≤ length (now out) ⌝ }
     ensures { λ r. ⌜ Appended (now (out .entry)) at (digits most n) r (now (out .exit)) ⌝ }

@@ -25,7 +25,8 @@ ghost use Rattle.tap.specs.Tap.{tapHeader, longUnit, longForm, formOf, t
 ghost use Rattle.tap.specs.Reading.{wrongLetters, wrongCount, tapVersion, durationsIn, readTap, Reads};
 ghost use Rattle.tap.specs.Forms.{versionAnswer, formBytes, byteUnits, formWidth, durationAt, readIn};
 
-const HEADER_BYTES: usize = 20;
+// The bytes before the data.
+pub const HEADER_BYTES: usize = 20;
 
 // The header of version 0 with no data.
 const HEADER: [u8; HEADER_BYTES] = *b"C64-TAPE-RAW\0\0\0\0\0\0\0\0";
@@ -35,6 +36,7 @@ const VERSION_AT: usize = 12;
 
 const RESERVED_AT: usize = 13;
 
+// Where the number of data bytes stands.
 const COUNT_AT: usize = 16;
 
 const LAST_VERSION: u8 = 1;
@@ -239,7 +241,7 @@ fn duration_at(version: u8, bytes: &[u8], i: usize) -> u32
 
 // ---- Units
 
-// The cycles of as many units as one byte counts.
+// The cycles of as many units as one byte counts. These always fit.
 fn byte_cycles(units: u8) -> Cycles
     ensures { λ r. ⌜ r .0 ≡ units * unitCycles ⌝ }
 {
@@ -339,7 +341,7 @@ fn measure_data(version: u8, durations: &[u32]) -> Put
     Put::Count(n)
 }
 
-// Writes a file of n data bytes.
+// Writes a file of n data bytes, at most four for each duration.
 fn write_data(version: u8, durations: &[u32], n: usize, out: &mut [u8]) -> Put
     requires { ⌜ n ≡ length (tapData version (now durations)) ⌝ }
     requires { ⌜ n ≤ 4194304 ⌝ }

@@ -2,11 +2,8 @@
 use libc::STDIN_FILENO;
 use libc::STDOUT_FILENO;
 
-// One byte more than is listed, so that a longer input is seen to be too long.
-const INPUT_ROOM: usize = listing::MOST_INPUT + 1;
-
 fn main() {
-    let mut file = [0u8; INPUT_ROOM];
+    let mut file = [0u8; listing::INPUT_ROOM];
     let mut text = [0u8; listing::MOST_TEXT];
     let n = io::read_full(STDIN_FILENO, &mut file);
     let count = listing::list_tape(&file[..n], &mut text);

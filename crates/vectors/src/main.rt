@@ -1,11 +1,8 @@
 // Lists TAP files that an independent tool made. The arguments are their names; the output is compared with the listings expected.
 use libc::STDOUT_FILENO;
 
-// One byte more than is listed, so that a longer file is seen to be too long.
-const FILE_ROOM: usize = listing::MOST_INPUT + 1;
-
-// The length of '.tap', which every name ends with and which is not printed.
-const SUFFIX: usize = 4;
+// The length of '.tap', with which every name has to end and which is not printed.
+const SUFFIX_BYTES: usize = 4;
 
 fn main() {
     let count = os::arg_count();
@@ -20,10 +17,10 @@ fn main() {
 fn list_argument(i: usize) {
     let mut path = io::buffer();
     let n = os::arg(i, &mut path);
-    if n < SUFFIX {
+    if n < SUFFIX_BYTES {
         return;
     }
-    let end = n - SUFFIX;
+    let end = n - SUFFIX_BYTES;
     io::write_all(STDOUT_FILENO, b"== ");
     io::write_all(STDOUT_FILENO, &path[..end]);
     io::write_all(STDOUT_FILENO, b"\n");
@@ -37,7 +34,7 @@ fn list_argument(i: usize) {
 }
 
 fn list_file(fd: i32) {
-    let mut file = [0u8; FILE_ROOM];
+    let mut file = [0u8; listing::INPUT_ROOM];
     let mut text = [0u8; listing::MOST_TEXT];
     let n = io::read_full(fd, &mut file);
     let count = listing::list_tape(&file[..n], &mut text);

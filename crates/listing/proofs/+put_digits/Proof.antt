@@ -1,20 +1,22 @@
-use denote.Ref.{now}
-use borrow.Author.Needs.{needs}
-use native.Mathlib.Omega.{arith}
-use Rattle.listing.proofs.LineLaws.{nothing-put, last-put, more-put, more-room, append-length}
+-- `listing::put_digits` meets its contract: the digits before the last one are put by a call with one digit fewer, which is the measure.
 use Prim.Native.Nat.{ℕ, _<_}
+use native.Mathlib.Omega.{arith}
+use borrow.Author.Needs.{needs}
 use borrow.Fn.Kinds.{In}
 use borrow.Fn.PlainCycle.{Measures, is, falls, and}
+use denote.Ref.{now}
+use Rattle.listing.proofs.LineLaws.{append-length, nothing-put, last-put, more-put, more-room}
+use Rattle.listing.proofs.digit_of.Reads as digit-of-reads
 use Rattle.listing.proofs.put_digits.Reads as put-digits
 use Rattle.listing.proofs.put_digits.Kinds as put-digits-kinds
 use Rattle.listing.proofs.+put_digits.Lts-put_digits as put-digits-lts
-use Rattle.listing.proofs.digit_of.Reads as digit-of-reads
 use Rattle.listing.proofs.+put_digits.{statement}
 use Rattle.listing.proofs.+put_digits.Tie.{close}
 
 abbrev μ-put-digits : Measures 1 put-digits-kinds.ps ℕ
 μ-put-digits κs a = a .0
 
+-- what the function is given at the measure t, and what its own call asks below t
 abbrev put-digits-at : ℕ → In 1 put-digits-kinds.ps
 put-digits-at t =
     and 1 put-digits-kinds.ps (is 1 put-digits-kinds.ps μ-put-digits t) put-digits.Pre

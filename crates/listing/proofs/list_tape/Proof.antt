@@ -1,5 +1,5 @@
 -- `listing::list_tape` meets its contract: the text of what was read is the listing, and every text fits.
-use Prim.Native.Nat.{ℕ, _-_}
+use Prim.Native.Nat.{ℕ}
 use native.Mathlib.Omega.{arith}
 use borrow.Author.Needs.{needs}
 use denote.Ref.{now}

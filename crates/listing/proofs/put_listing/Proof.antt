@@ -32,7 +32,7 @@ put-fields-requires c κs =
     let t = n .before .before .before .before .before .before .before in
     let s = n .shown-name .ensures .0 in
     let w = width-shown (now (t .before .before .before .before .before .args .header)) in
-    let r = append-room (t .put-text .ensures) 26 102 (omega arith) (omega (arith, t .before .before .before .before .before .pre)) in
+    let r = append-room (t .put-text .ensures) 26 71 (omega arith) (omega (arith, t .before .before .before .before .before .pre)) in
     rw s (omega arith)
 
 same-length : tie.Need-same-length

@@ -1,5 +1,4 @@
 -- `tap::wrong_letters` meets its contract: too few bytes, or other letters in front.
-use Prim.Native.Nat.{_-_}
 use native.Mathlib.Omega.{arith}
 use mathlib.Core.Path.{sym}
 use borrow.Author.Needs.{needs}
