@@ -38,7 +38,7 @@ answered-is (Refused r) l e = absurd (let z : _≡_ {A = ℕ} 0 1 = cc in omega 
 -- ---- The writer accepted the file
 
 module _ {f : File} {out out′ : List ℕ} {count : ℕ} (sent : Sent f out count out′) where
-  taken : Taken (length out) f
+  pub taken : Taken (length out) f
   taken = let w = mapped-accepted length (writeFile (length out) f) (sent .promised .0) in accepted-taken (length out) f (w .0) (w .1)
 
   length-count : length (filePulses f) ≡ count

@@ -1,3 +1,4 @@
 mod Listed
 mod Examples
+pub mod Printed
 pub mod LineLaws

@@ -16,7 +16,8 @@ use Rattle.lists.proofs.BufferLaws.{part-put, rest-front}
 use Rattle.lists.proofs.PlaceLaws.{none-first, first-none}
 use Rattle.lists.proofs.TextLaws.{length-low, from-low, same-equal}
 use Rattle.refusal.specs.declared.Reason.the-variants.{WrongSize, NoRoom, WrongTapVersion, NoTapForm}
-use Rattle.refusal.specs.Refusal.{Outcome, accepted, refusalAt, mapped, puts}
+use Rattle.refusal.specs.declared.Put.the-variants.{Count}
+use Rattle.refusal.specs.Refusal.{Outcome, accepted, refusalAt, mapped, puts, Written}
 use Rattle.refusal.proofs.OutcomeLaws.{accepted-next, first-accepted, first-found, then-accepted, mapped-accepted}
 use Rattle.pulse.specs.Units.{unitCycles}
 use Rattle.tap.specs.declared.TapAnswer.{TapAnswer}
@@ -128,10 +129,6 @@ module _ (v : ℕ) (ds : List ℕ) (few : length ds ≤ 1048576) (old : v ≤ 1)
       λ i h. eqb-false (length (formOf v (getD ds i 0))) 0 (none-first (λ j. hasNoForm v (getD ds j 0)) (length ds) 0 has i (omega arith) (omega arith)) in
       rw (header-back v (tapData v ds) (omega arith) old, data-back v (tapData v ds), forms-back v 0 ds n)
 
-  pub read-back : (room : ℕ) → length ds ≤ room → readTap room (tapFile v (tapData v ds)) ≡ accepted (tapWith v ds)
-  unfolding readTap fitting
-  read-back room h = rw (file-back, le-ltb room (length ds) h)
-
 -- ---- What the writer accepted
 
 record Sent (room v : ℕ) (ds bytes : List ℕ) : Type 0 where
@@ -186,14 +183,24 @@ written-front : (file bytes : List ℕ) (count : ℕ) (file′ : List ℕ) → l
     → take count file′ ≡ bytes
 written-front file bytes count file′ l h e = rw (e, ← l) (part-put file 0 bytes (omega arith))
 
+-- what the writer put holds the version and the durations
+pub tap-back : (v : ℕ) (ds file : List ℕ) (count : ℕ) (file′ : List ℕ) → Written (writeTap (length file) v ds) file (Count count) file′
+    → tapOf (take count file′) ≡ accepted (tapWith v ds)
+tap-back v ds file count file′ w =
+    let m = mapped-accepted length (writeTap (length file) v ds) (w .0) in
+    let t = accepted-sent (length file) v ds (m .0) (m .1) in
+    let p : file′ ≡ putAt file 0 (m .0) = w .1 ∙ ap (λ o. putAt file 0 (puts o)) (m .1) in
+    let b : take count file′ ≡ m .0 = written-front file (m .0) count file′ (m .2) (t .fits) p in
+    rw (b, t .file) (file-back v ds (t .few) (t .old) (t .has))
+
+read-back : (v : ℕ) (ds file : List ℕ) (room : ℕ) → tapOf file ≡ accepted (tapWith v ds) → length ds ≤ room → readTap room file ≡ accepted (tapWith v ds)
+unfolding readTap fitting
+read-back v ds file room e h = rw (e, le-ltb room (length ds) h)
+
 pub round-trip : RoundTrip
 round-trip = record {
-  returned = λ v ds file count file′ w out h r out′ s.
-      let m = mapped-accepted length (writeTap (length file) v ds) (w .0) in
-      let t = accepted-sent (length file) v ds (m .0) (m .1) in
-      let p : file′ ≡ putAt file 0 (m .0) = w .1 ∙ ap (λ o. putAt file 0 (puts o)) (m .1) in
-      let b : take count file′ ≡ m .0 = written-front file (m .0) count file′ (m .2) (t .fits) p in
-      returned v ds out h r out′ (readTap (length out) (take count file′)) (rw (b, t .file) (read-back v ds (t .few) (t .old) (t .has) (length out) h)) s;
+  returned = λ v ds file count file′ w out h r out′.
+      returned v ds out h r out′ (readTap (length out) (take count file′)) (read-back v ds (take count file′) (length out) (tap-back v ds file count file′ w) h);
   taken = right-taken;
   zero = without-zero;
   one = without-one;
