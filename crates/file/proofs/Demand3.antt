@@ -106,12 +106,15 @@ file-undamaged f = record {
       rw (drop-at (headerPulses f) (dataPulses f) n refl, take-all m (dataPulses f) (omega arith)) (undamaged (f .leader₁) (f .bytes));
 }
 
--- and so does what the writer left in the buffer, as many pulses as it answered
-sent-undamaged : {f : File} {out out′ : List ℕ} {count : ℕ} → Sent f out count out′ → FileDamaged f count (part out′ 0 count)
-sent-undamaged {f} {out} sent =
+-- what the writer left in the buffer, as many pulses as it answered, is the file
+pub sent-strip : {f : File} {out out′ : List ℕ} {count : ℕ} → Sent f out count out′ → part out′ 0 count ≡ filePulses f
+sent-strip {f} {out} sent =
     let t = taken sent in
     let fits = t .fits in
-    rw (sent .promised .1, taken-accepted (length out) f t, ← (length-count sent), part-put out 0 (filePulses f) (omega arith)) (file-undamaged f)
+    rw (sent .promised .1, taken-accepted (length out) f t, ← (length-count sent)) (part-put out 0 (filePulses f) (omega arith))
+
+sent-undamaged : {f : File} {out out′ : List ℕ} {count : ℕ} → Sent f out count out′ → FileDamaged f count (part out′ 0 count)
+sent-undamaged {f} sent = rw (sent-strip sent, ← (length-count sent)) (file-undamaged f)
 
 -- ---- Demand 3
 

@@ -10,6 +10,7 @@ use Rattle.file.specs.File.{File, fileHeader}
 use Rattle.file.specs.Damage.{FileDamaged}
 use Rattle.file.specs.Claim.{Sent}
 use Rattle.tap.specs.Tap.{writeTap}
+use Rattle.tap.specs.Claim.{Right}
 use Rattle.listing.specs.Listing.{fileLine, heading, listing}
 
 -- For every file and leaders that the file writer accepts, every strip within the damage, and every TAP file of at most 16 KiB that the
@@ -19,3 +20,5 @@ pub record Printed : Type 0 where
       → (strip : List ℕ) → FileDamaged f count strip
       → (version : ℕ) (tape : List ℕ) (n : ℕ) (tape′ : List ℕ) → Written (writeTap (length tape) version strip) tape (Count n) tape′ → n ≤ 16384
       → listing (take n tape′) ≡ heading ++ fileLine (f .fields) (length (f .bytes)) (shownName (fileHeader f))
+  -- The strip as written, which the file writer left in the buffer, has a form as TAP: version 1 takes it.
+  pub taken : (f : File) (out : List ℕ) (count : ℕ) (out′ : List ℕ) → Sent f out count out′ → Right 1 (take count out′)
