@@ -19,8 +19,8 @@ use Rattle.refusal.specs.Refusal.{Outcome, refused, accepted, refusalAt, told, 
 use Rattle.refusal.proofs.OutcomeLaws.{told-refused, mapped-refused, puts-refused, accepted-next, mapped-told, mapped-accepted}
 use Rattle.tap.specs.declared.TapAnswer.{TapAnswer}
 use Rattle.tap.specs.declared.TapAnswer.the-variants.{Accepted, Refused}
-use Rattle.tap.specs.declared.Header.{Header}
-use Rattle.tap.specs.declared.Header.the-variants.{Version, Refused as WrongHeader}
+use Rattle.tap.specs.declared.HeaderRead.{HeaderRead}
+use Rattle.tap.specs.declared.HeaderRead.the-variants.{Version, Refused as WrongHeader}
 use Rattle.tap.specs.Reading.{wrongLetters, tapVersion, durationsIn, Tap, tapWith, infoOf, durationsOf, tapOf, fitting, readTap, Reads}
 use Rattle.tap.specs.Forms.{versionAnswer, durationAt, readIn}
 use Rattle.tap.proofs.DataLaws.{from, widthAt, form-next, form-cut, form-over}
@@ -151,7 +151,7 @@ module _ (v : ℕ) (bytes out : List ℕ) {a : Put} (e : putAnswer a ≡ mapped 
         let f : readIn (length out) v bytes ≡ accepted (tapWith v (puts (durationsIn v 0 bytes))) = read-given ∙ rw (le-ltb (length out) (length (puts (durationsIn v 0 bytes))) (omega arith)) in
         rw f (ap (λ n. accepted (record { version = v; count = n })) (sym l), s ∙ put-room out 0 (puts (durationsIn v 0 bytes)) (omega arith))
 
-module _ (file out : List ℕ) {h : Header} (e : versionAnswer h ≡ tapVersion file) where
+module _ (file out : List ℕ) {h : HeaderRead} (e : versionAnswer h ≡ tapVersion file) where
   pub header-wrong : {r : Refusal} → h ≡ WrongHeader r → Reads (readTap (length out) file) out (Refused r) out
   unfolding readTap tapOf
   header-wrong {r} q = reads-refused (readTap (length out) file) out {s = r} (rw (← e, q)) refl

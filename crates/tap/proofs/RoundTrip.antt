@@ -101,7 +101,10 @@ module _ (v at : ℕ) (bs : List ℕ) where
       ]
       | no e ↦ elim (ℕ-discrete (d % longUnit) 0) [
         | yes m ↦ elim (decLt (d / longUnit) (2 ^ 24)) [
-          | yes h ↦ rw (form-long d v z e, long-fits d m h, length-low) (long-back e (d / longUnit) h ∙ ap (λ x. mapped (λ ds. x ∷ ds) (durationsIn v (at + 4) bs)) (let q : d / longUnit * longUnit ≡ d = omega arith in q))
+          | yes h ↦
+              let q : d / longUnit * longUnit ≡ d = omega arith in
+              rw (form-long d v z e, long-fits d m h, length-low)
+              (long-back e (d / longUnit) h ∙ ap (λ x. mapped (λ ds. x ∷ ds) (durationsIn v (at + 4) bs)) q)
           | no h ↦ absurd (has (ap length (form-long d v z e ∙ long-over d m (omega arith))))
         ]
         | no m ↦ absurd (has (ap length (form-long d v z e ∙ long-between d m)))

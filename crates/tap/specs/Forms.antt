@@ -8,8 +8,8 @@ use Rattle.lists.specs.Places.{part}
 use Rattle.lists.specs.Text.{lowFirst, fromLow}
 use Rattle.refusal.specs.Refusal.{Outcome, accepted, told, mapped, andThen}
 use Rattle.pulse.specs.Units.{unitCycles}
-use Rattle.tap.specs.declared.Header.{Header}
-use Rattle.tap.specs.declared.Header.the-variants.{Version, Refused}
+use Rattle.tap.specs.declared.HeaderRead.{HeaderRead}
+use Rattle.tap.specs.declared.HeaderRead.the-variants.{Version, Refused}
 use Rattle.tap.specs.declared.Form.{Form}
 use Rattle.tap.specs.declared.Form.the-variants.{Byte, Long, Missing}
 use Rattle.tap.specs.Tap.{zeroCycles, longUnit}
@@ -17,7 +17,7 @@ use Rattle.tap.specs.Reading.{Tap, tapWith, durationsIn, fitting}
 
 -- ---- Reading
 
-abbrev pub versionAnswer : Header → Outcome ℕ
+abbrev pub versionAnswer : HeaderRead → Outcome ℕ
 versionAnswer (Version version) = accepted version
 versionAnswer (Refused r) = told r
 

@@ -76,8 +76,8 @@ pub fn read_tap(file: &[u8], out: &mut [u32]) -> TapAnswer
     ensures { λ r. ⌜ Reads (readTap (length (now (out .entry))) (now (file .entry))) (now (out .entry)) r (now (out .exit)) ⌝ }
 {
     match read_header(file) {
-        Header::Refused(r) => TapAnswer::Refused(r),
-        Header::Version(version) => read_data(version, &file[HEADER_BYTES..], out),
+        HeaderRead::Refused(r) => TapAnswer::Refused(r),
+        HeaderRead::Version(version) => read_data(version, &file[HEADER_BYTES..], out),
     }
 }
 
@@ -101,25 +101,25 @@ pub fn write_tap(durations: &[u32], version: u8, out: &mut [u8]) -> Put
 // ---- Reading
 
 // What the 20 bytes in front come to.
-enum Header {
+enum HeaderRead {
     Version(u8),
     Refused(Refusal),
 }
 
-fn read_header(file: &[u8]) -> Header
+fn read_header(file: &[u8]) -> HeaderRead
     ensures { λ r. ⌜ versionAnswer r ≡ tapVersion (now (file .entry)) ⌝ }
 {
     if wrong_letters(file) {
-        return Header::Refused(refusal::at(Reason::WrongTapHeader, 0));
+        return HeaderRead::Refused(refusal::at(Reason::WrongTapHeader, 0));
     }
     let version = file[VERSION_AT];
     if LAST_VERSION < version {
-        return Header::Refused(refusal::at(Reason::WrongTapVersion, 0));
+        return HeaderRead::Refused(refusal::at(Reason::WrongTapVersion, 0));
     }
     if wrong_count(file) {
-        return Header::Refused(refusal::at(Reason::WrongTapHeader, 0));
+        return HeaderRead::Refused(refusal::at(Reason::WrongTapHeader, 0));
     }
-    Header::Version(version)
+    HeaderRead::Version(version)
 }
 
 // Whether there are fewer than 20 bytes, or other letters in front.
