@@ -1,7 +1,7 @@
 -- Laws of program files: what the writer accepts, how long it is, and that every strip within its damage is read as that file.
 use Prim.Native.Nat.{ℕ, _+_, _*_, _≤_, _<_}
 use native.Mathlib.Omega.{arith}
-use mathlib.Core.Path.{_≡_, refl, sym, ap, _∙_}
+use mathlib.Core.Path.{_≡_, sym, ap, _∙_}
 use mathlib.Core.Logic.{_⊎_, inl, inr}
 use mathlib.Core.Bool.{false, not, _||_}
 use mathlib.Core.List.{List}
@@ -176,8 +176,6 @@ module _ (f : File) (typed : Typed f) (right : Right f) (strip : List ℕ) (o : 
 -- the header of an accepted file has 192 bytes, and its data end minus start
 pub record Whole (f : FileRead) : Type 0 where
   pub header : length (f .header) ≡ 192
-  pub fields : f .loaded .fields ≡ fieldsOf (f .header)
-  pub kind : (f .loaded .fields .kind ≡ 1) ⊎ (f .loaded .fields .kind ≡ 3)
   pub bytes : length (f .bytes) ≡ dataBytes (f .loaded .fields)
 
 module _ (cs : List Class) (headerRoom dataRoom : ℕ) (f : FileRead) where
@@ -189,7 +187,7 @@ module _ (cs : List Class) (headerRoom dataRoom : ℕ) (f : FileRead) where
       let r = accepted-next (ltb headerRoom 192 || ltb dataRoom (dataBytes (fieldsOf header))) (refusalAt NoRoom 0) _ f (a .1) in
       let m = mapped-accepted (fileRead header) (inBlock 1 (readFrom cs end (dataBytes (fieldsOf header)))) (sym (r .1)) in
       let n = length-payload cs (dataBytes (fieldsOf header)) (m .0) end (block-accepted 1 _ (m .0) (m .1)) in
-      rw (← (m .2)) (record { header = l; fields = refl; kind = kind-right (fieldsOf header .kind) (k .0); bytes = n })
+      rw (← (m .2)) (record { header = l; bytes = n })
 
   pub file-whole : (from : ℕ) → readFile cs headerRoom dataRoom from ≡ accepted f → Whole f
   unfolding readFileBy

@@ -10,7 +10,7 @@ use lib.Seq.{sets}
 use Rattle.lists.specs.Buffer.{putAt}
 use Rattle.lists.specs.Text.{ascii, lowFirst}
 use Rattle.lists.proofs.BufferLaws.{put-room, sets-append}
-use Rattle.lists.proofs.LoopLaws.{firstLeft, first-begun, first-passed, first-here, first-over, Putting, put-begun, put-next, put-done}
+use Rattle.lists.proofs.LoopLaws.{firstLeft, first-begun, first-passed, first-here, first-over, Putting, put-next, put-done}
 use Rattle.refusal.specs.declared.Reason.the-variants.{WrongSize, NoRoom, WrongTapVersion, NoTapForm}
 use Rattle.refusal.specs.declared.Refusal.{Refusal}
 use Rattle.refusal.specs.declared.Put.{Put}
@@ -76,9 +76,6 @@ module _ (v : ℕ) (ds : List ℕ) where
       pub within : i ≤ length ds
       pub room : at + length (tapData v (drop i ds)) ≤ length before
       pub put : Putting before 20 (tapData v ds) out at (tapData v (drop i ds))
-
-    pub data-begun : 20 + length (tapData v ds) ≤ length before → DataPut before 0 20
-    data-begun h = record { within = omega arith; room = h; put = put-begun before 20 20 _ _ refl refl }
 
     module _ {out : List ℕ} {i at : ℕ} (u : DataPut out i at) where
       data-width : i < length ds → length (tapData v (drop i ds)) ≡ length (formOf v (getD ds i 0)) + length (tapData v (drop (i + 1) ds))

@@ -25,7 +25,7 @@ pub record Right (version : ℕ) (durations : List ℕ) : Type 0 where
 
 pub record RoundTrip : Type 0 where
   -- Reading what was written returns the version and the durations: for all that the writer was lent and accepted, the reader, lent the
-  -- bytes that the writer put and room for the durations. Writer and reader did what their contracts say.
+  -- bytes that the writer put and room for the durations, answers and puts them. Writer and reader did what their contracts say.
   pub returned :
       (version : ℕ) (durations file : List ℕ) (count : ℕ) (file′ : List ℕ) → Written (writeTap (length file) version durations) file (Count count) file′
       → (out : List ℕ) → length durations ≤ length out
