@@ -23,7 +23,8 @@ const START_AT: usize = 1;
 
 const END_AT: usize = 3;
 
-const NAME_AT: usize = 5;
+// Where the name begins.
+pub const NAME_AT: usize = 5;
 
 const NAME_BYTES: usize = HEADER_BYTES - NAME_AT;
 
