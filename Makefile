@@ -1,12 +1,26 @@
-# Everything is done by the Rattle kit's command `rt`, which has to be on the PATH.
-.PHONY: run test
+# `rt`, the command of the Rattle kit, has to be on the PATH; for lib, test and bench also cc, and for the last two cargo.
+.PHONY: run test lib bench
 
 TAPE = samples/game.tap
+
+# where the library for C is put: include/crumbthistle.h and lib/libcrumbthistle.a
+LIB = target/crumbthistle
 
 run: # prove and build the listing program, then list a tape: make run TAPE=FILE
 	@mkdir -p target
 	@rt check tape_list > target/run.log 2>&1 || { tail -n 40 target/run.log; exit 1; }
 	@target/bin/tape_list < "$(TAPE)"
 
-test: # prove everything from nothing, try the edits that must be refused, run every program
-	@rt ci
+test: # prove everything from nothing, try the edits that must be refused, run every program; then the tests beside the proofs
+	@tests/run
+
+lib: # prove and build the library for C
+	@mkdir -p target
+	@rt staticlib capi > target/lib.log 2>&1 || { tail -n 40 target/lib.log; exit 1; }
+	@mkdir -p "$(LIB)/include" "$(LIB)/lib"
+	@cp include/crumbthistle.h "$(LIB)/include/"
+	@cp target/staticlib/libcapi.a "$(LIB)/lib/libcrumbthistle.a"
+	@echo "cc -I$(LIB)/include PROGRAM.c -L$(LIB)/lib -lcrumbthistle"
+
+bench: lib # our library and an independent Rust implementation side by side
+	@cd tests/differential && cargo run --release --offline --quiet --bin bench

@@ -1,0 +1,41 @@
+/* Loads a program from a TAP file:  load < FILE.tap > PROGRAM
+ *
+ * The program's bytes go to the output, what was found to the error output. The status is 1 where the tape is refused. */
+#include <stdio.h>
+
+#include "crumbthistle.h"
+
+enum { MOST_FILE = 1 << 20 };
+
+static uint8_t file[MOST_FILE + 1];
+static uint32_t pulses[MOST_FILE];
+static uint8_t header[TAPE_HEADER_BYTES];
+static uint8_t data[TAPE_MOST_BYTES];
+
+static int refused(uint32_t refusal, uint32_t block, uint64_t place)
+{
+    fprintf(stderr, "refused %u %u %llu\n", (unsigned)refusal, (unsigned)block, (unsigned long long)place);
+    return 1;
+}
+
+int main(void)
+{
+    size_t len = fread(file, 1, sizeof file, stdin);
+    if (len > MOST_FILE) {
+        fprintf(stderr, "the file is longer than %d bytes\n", MOST_FILE);
+        return 1;
+    }
+    tape_tap tape = tape_read_tap(file, len, pulses, MOST_FILE);
+    if (tape.refusal != TAPE_ACCEPTED)
+        return refused(tape.refusal, tape.block, tape.place);
+
+    tape_file found = tape_read_file(pulses, tape.count, 0, header, sizeof header, data, sizeof data);
+    if (found.refusal != TAPE_ACCEPTED)
+        return refused(found.refusal, found.block, found.place);
+
+    tape_span name = tape_shown_name(header, sizeof header);
+    size_t n = found.end - found.start;
+    fprintf(stderr, "type %u, $%04X to $%04X, %zu bytes, %.*s\n", (unsigned)found.type, (unsigned)found.start, (unsigned)found.end, n,
+            (int)name.length, (const char *)header + name.offset);
+    return fwrite(data, 1, n, stdout) == n ? 0 : 1;
+}

@@ -1,0 +1,396 @@
+//! Calls made on the library and on the reference with the same arguments,
+//! and what came of them.
+
+use std::collections::BTreeMap;
+use std::env;
+use std::fmt::Debug;
+
+use crate::random::Random;
+use crate::reference::{BlockRead, FileRead, Header, Refusal, Span, TapRead};
+use crate::{library, reference};
+
+const DEFAULT_SEED: u64 = 0xc64;
+const DEFAULT_CALLS: u64 = 60_000;
+
+/// Elements on either side of a lent buffer that no call may touch.
+const MARGIN: usize = 32;
+
+/// A buffer to lend, filled with a pattern, with a margin around it.
+#[derive(Clone, Debug, PartialEq, Eq)]
+pub struct Lent<T> {
+    all: Vec<T>,
+}
+
+impl<T: Copy + PartialEq + Debug> Lent<T> {
+    fn new(room: usize, pattern: impl Fn(usize) -> T) -> Self {
+        Self {
+            all: (0..room + 2 * MARGIN).map(pattern).collect(),
+        }
+    }
+
+    /// The part that is lent.
+    pub fn part(&mut self) -> &mut [T] {
+        let end = self.all.len() - MARGIN;
+        &mut self.all[MARGIN..end]
+    }
+
+    /// The first element that differs from the other buffer's, with both values.
+    fn difference(&self, other: &Self) -> Option<String> {
+        let i = (0..self.all.len()).find(|&i| self.all[i] != other.all[i])?;
+        let place = i as isize - MARGIN as isize;
+        Some(format!(
+            "at {place} the library has {:?}, the reference {:?}",
+            self.all[i], other.all[i]
+        ))
+    }
+}
+
+fn lend_bytes(random: &mut Random, room: usize) -> Lent<u8> {
+    let salt = random.bits();
+    Lent::new(room, |i| (salt.rotate_left(i as u32) ^ i as u64) as u8)
+}
+
+fn lend_numbers(random: &mut Random, room: usize) -> Lent<u32> {
+    let salt = random.bits();
+    Lent::new(room, |i| (salt.rotate_left(i as u32) ^ i as u64) as u32)
+}
+
+/// An outcome of a call: its name, the refusal's number or 0, and the block.
+type Outcome = (&'static str, u32, u32);
+
+/// One area's calls from a seed.
+pub struct Run {
+    area: &'static str,
+    seed: u64,
+    wanted: u64,
+    made: u64,
+    /// The index and the name of what runs now.
+    index: u64,
+    scene: &'static str,
+    seen: BTreeMap<Outcome, u64>,
+}
+
+/// A kind of input: its name, and what makes one and calls with it.
+pub type Scene = (&'static str, fn(&mut Run, &mut Random));
+
+impl Run {
+    /// A run with the seed and the number of calls of the environment.
+    pub fn new(area: &'static str) -> Self {
+        Self {
+            area,
+            seed: number_from("SEED").unwrap_or(DEFAULT_SEED),
+            wanted: number_from("CALLS").unwrap_or(DEFAULT_CALLS),
+            made: 0,
+            index: 0,
+            scene: "",
+            seen: BTreeMap::new(),
+        }
+    }
+
+    /// Plays the scenes in turn until the wanted number of calls is made. Each
+    /// has its own random numbers, from the seed, the area and its index.
+    pub fn play(&mut self, scenes: &[Scene]) {
+        while self.made < self.wanted {
+            let (name, scene) = scenes[(self.index % scenes.len() as u64) as usize];
+            self.scene = name;
+            let mut random = self.random();
+            scene(self, &mut random);
+            self.index += 1;
+        }
+    }
+
+    /// The random numbers of the present index.
+    pub fn random(&self) -> Random {
+        let area = self.area.bytes().fold(0, |sum: u64, byte| {
+            sum.wrapping_mul(131).wrapping_add(byte.into())
+        });
+        Random::new(self.seed ^ area.rotate_left(32), self.index)
+    }
+
+    /// Prints what was seen, and demands that each outcome of a call listed
+    /// here, as refusal number and block, came up a fair number of times, and
+    /// no other one ever. A random run of few calls need not see each.
+    pub fn finish(self, outcomes: &[(&'static str, &[(u32, u32)])]) {
+        println!("{}: {} calls, seed {}", self.area, self.made, self.seed);
+        for ((call, number, block), times) in &self.seen {
+            match number {
+                0 => println!("  {call}: accepted {times}"),
+                _ => println!("  {call}: refused {number} block {block} {times}"),
+            }
+        }
+        let fair = match self.made {
+            0..10_000 if self.index > 0 => 0,
+            made => (made / 2000).max(1),
+        };
+        for &(call, listed) in outcomes {
+            for &(number, block) in listed {
+                let times = self.seen.get(&(call, number, block)).copied();
+                assert!(
+                    times.unwrap_or(0) >= fair,
+                    "{call}: refusal {number} block {block} was seen too seldom"
+                );
+            }
+        }
+        for (call, number, block) in self.seen.keys() {
+            let listed = outcomes
+                .iter()
+                .any(|(name, listed)| name == call && listed.contains(&(*number, *block)));
+            assert!(
+                listed,
+                "{call}: refusal {number} block {block} cannot occur"
+            );
+        }
+    }
+
+    /// Counts a call, and demands that both answers and all buffers agree.
+    fn settle<T: PartialEq + Debug>(
+        &mut self,
+        call: &'static str,
+        library: &Result<T, Refusal>,
+        reference: &Result<T, Refusal>,
+        buffers: &[Option<String>],
+        arguments: impl Fn() -> String,
+    ) {
+        self.made += 1;
+        let outcome = match library {
+            Ok(_) => (call, 0, 0),
+            Err(refusal) => (call, refusal.number, refusal.block),
+        };
+        *self.seen.entry(outcome).or_default() += 1;
+        if library != reference {
+            panic!(
+                "{call} with {}: the library answers {library:?}, the reference {reference:?}",
+                arguments()
+            );
+        }
+        if let Some(difference) = buffers.iter().flatten().next() {
+            panic!(
+                "{call} with {}: after {library:?} the buffers differ: {difference}",
+                arguments()
+            );
+        }
+    }
+
+    pub fn write_block(
+        &mut self,
+        random: &mut Random,
+        payload: &[u8],
+        leader: u64,
+        room: usize,
+    ) -> Result<usize, Refusal> {
+        let mut ours = lend_numbers(random, room);
+        let mut theirs = ours.clone();
+        let answer = library::write_block(payload, leader, ours.part());
+        let expected = reference::write_block(payload, leader, theirs.part());
+        self.settle(
+            "write_block",
+            &answer,
+            &expected,
+            &[ours.difference(&theirs)],
+            || format!("payload {}, leader {leader}, room {room}", brief(payload)),
+        );
+        answer
+    }
+
+    pub fn read_block(
+        &mut self,
+        random: &mut Random,
+        pulses: &[u32],
+        from: usize,
+        n: usize,
+        room: usize,
+    ) -> Result<(BlockRead, Vec<u8>), Refusal> {
+        let mut ours = lend_bytes(random, room);
+        let mut theirs = ours.clone();
+        let answer = library::read_block(pulses, from, n, ours.part());
+        let expected = reference::read_block(pulses, from, n, theirs.part());
+        self.settle(
+            "read_block",
+            &answer,
+            &expected,
+            &[ours.difference(&theirs)],
+            || format!("pulses {}, from {from}, n {n}, room {room}", brief(pulses)),
+        );
+        answer.map(|read| (read, ours.part().to_vec()))
+    }
+
+    pub fn write_file(
+        &mut self,
+        random: &mut Random,
+        header: Header,
+        name: &[u8],
+        bytes: &[u8],
+        leaders: [u64; 2],
+        room: usize,
+    ) -> Result<(usize, Vec<u32>), Refusal> {
+        let mut ours = lend_numbers(random, room);
+        let mut theirs = ours.clone();
+        let answer = library::write_file(header, name, bytes, leaders, ours.part());
+        let expected = reference::write_file(header, name, bytes, leaders, theirs.part());
+        self.settle(
+            "write_file",
+            &answer,
+            &expected,
+            &[ours.difference(&theirs)],
+            || {
+                format!(
+                    "{header:?}, name {}, bytes {}, leaders {leaders:?}, room {room}",
+                    brief(name),
+                    brief(bytes)
+                )
+            },
+        );
+        answer.map(|count| (count, ours.part().to_vec()))
+    }
+
+    /// An accepted file comes with both buffers.
+    pub fn read_file(
+        &mut self,
+        random: &mut Random,
+        pulses: &[u32],
+        from: usize,
+        rooms: [usize; 2],
+    ) -> Result<(FileRead, [Vec<u8>; 2]), Refusal> {
+        let mut ours = rooms.map(|room| lend_bytes(random, room));
+        let mut theirs = ours.clone();
+        let [header, data] = &mut ours;
+        let answer = library::read_file(pulses, from, header.part(), data.part());
+        let [header, data] = &mut theirs;
+        let expected = reference::read_file(pulses, from, header.part(), data.part());
+        self.settle(
+            "read_file",
+            &answer,
+            &expected,
+            &[
+                ours[0].difference(&theirs[0]),
+                ours[1].difference(&theirs[1]),
+            ],
+            || format!("pulses {}, from {from}, rooms {rooms:?}", brief(pulses)),
+        );
+        answer.map(|read| (read, ours.map(|mut lent| lent.part().to_vec())))
+    }
+
+    pub fn pack_header(
+        &mut self,
+        random: &mut Random,
+        header: Header,
+        name: &[u8],
+        room: usize,
+    ) -> Result<usize, Refusal> {
+        let mut ours = lend_bytes(random, room);
+        let mut theirs = ours.clone();
+        let answer = library::pack_header(header, name, ours.part());
+        let expected = reference::pack_header(header, name, theirs.part());
+        self.settle(
+            "pack_header",
+            &answer,
+            &expected,
+            &[ours.difference(&theirs)],
+            || format!("{header:?}, name {}, room {room}", brief(name)),
+        );
+        answer
+    }
+
+    pub fn unpack_header(&mut self, bytes: &[u8]) -> Result<Header, Refusal> {
+        let answer = library::unpack_header(bytes);
+        let expected = reference::unpack_header(bytes);
+        self.settle("unpack_header", &answer, &expected, &[], || {
+            format!("header {}", brief(bytes))
+        });
+        answer
+    }
+
+    pub fn shown_name(&mut self, bytes: &[u8]) -> Span {
+        let answer = library::shown_name(bytes);
+        let expected = reference::shown_name(bytes);
+        let call = match (answer.offset, answer.length) {
+            (0, _) => "shown_name of no header",
+            (_, 0) => "shown_name of spaces",
+            _ => "shown_name",
+        };
+        self.settle(call, &Ok(answer), &Ok(expected), &[], || {
+            format!("header {}", brief(bytes))
+        });
+        answer
+    }
+
+    pub fn write_tap(
+        &mut self,
+        random: &mut Random,
+        durations: &[u32],
+        version: u8,
+        room: usize,
+    ) -> Result<(usize, Vec<u8>), Refusal> {
+        let mut ours = lend_bytes(random, room);
+        let mut theirs = ours.clone();
+        let answer = library::write_tap(durations, version, ours.part());
+        let expected = reference::write_tap(durations, version, theirs.part());
+        self.settle(
+            "write_tap",
+            &answer,
+            &expected,
+            &[ours.difference(&theirs)],
+            || {
+                format!(
+                    "durations {}, version {version}, room {room}",
+                    brief(durations)
+                )
+            },
+        );
+        answer.map(|length| (length, ours.part().to_vec()))
+    }
+
+    pub fn read_tap(
+        &mut self,
+        random: &mut Random,
+        file: &[u8],
+        room: usize,
+    ) -> Result<(TapRead, Vec<u32>), Refusal> {
+        let mut ours = lend_numbers(random, room);
+        let mut theirs = ours.clone();
+        let answer = library::read_tap(file, ours.part());
+        let expected = reference::read_tap(file, theirs.part());
+        self.settle(
+            "read_tap",
+            &answer,
+            &expected,
+            &[ours.difference(&theirs)],
+            || format!("file {}, room {room}", brief(file)),
+        );
+        answer.map(|read| (read, ours.part().to_vec()))
+    }
+}
+
+impl Drop for Run {
+    /// Says how a failure is repeated.
+    fn drop(&mut self) {
+        if std::thread::panicking() {
+            eprintln!(
+                "{}: failed at index {} ({}), call {}; repeat with SEED={} CALLS={}",
+                self.area, self.index, self.scene, self.made, self.seed, self.wanted
+            );
+        }
+    }
+}
+
+/// A number of the environment, decimal or with 0x before it.
+fn number_from(variable: &str) -> Option<u64> {
+    let text = env::var(variable).ok()?;
+    let number = match text.strip_prefix("0x") {
+        Some(digits) => u64::from_str_radix(digits, 16),
+        None => text.parse(),
+    };
+    Some(number.unwrap_or_else(|_| panic!("{variable} is not a number: {text}")))
+}
+
+/// A slice in short form: whole when it is short, else its length, its first
+/// elements and a sum over all.
+fn brief<T: Debug + Copy + Into<u64>>(slice: &[T]) -> String {
+    if slice.len() <= 24 {
+        return format!("{slice:?}");
+    }
+    let sum = slice
+        .iter()
+        .fold(0u64, |sum, &x| sum.wrapping_mul(31).wrapping_add(x.into()));
+    format!("[{} of {:?}.., sum {sum:x}]", slice.len(), &slice[..8])
+}

@@ -1,0 +1,318 @@
+//! The library under test, by the calls of its archive, with the signatures
+//! and the answers of the reference.
+
+use crate::reference::{BlockRead, FileRead, Header, Refusal, Span, TapRead};
+
+#[repr(C)]
+struct TapePut {
+    refusal: u32,
+    block: u32,
+    place: u64,
+    count: u64,
+}
+
+#[repr(C)]
+struct TapeBlock {
+    refusal: u32,
+    block: u32,
+    place: u64,
+    n: u64,
+    start: u64,
+    end: u64,
+}
+
+#[repr(C)]
+struct TapeFile {
+    refusal: u32,
+    block: u32,
+    place: u64,
+    kind: u32,
+    start: u32,
+    end: u32,
+    stop: u64,
+}
+
+#[repr(C)]
+struct TapeTap {
+    refusal: u32,
+    block: u32,
+    place: u64,
+    version: u32,
+    count: u64,
+}
+
+#[repr(C)]
+struct TapeSpan {
+    offset: u64,
+    length: u64,
+}
+
+extern "C" {
+    fn tape_write_block(
+        payload: *const u8,
+        n: usize,
+        leader: u64,
+        out: *mut u32,
+        room: usize,
+    ) -> TapePut;
+
+    fn tape_read_block(
+        pulses: *const u32,
+        count: usize,
+        from: usize,
+        n: usize,
+        out: *mut u8,
+        room: usize,
+    ) -> TapeBlock;
+
+    fn tape_write_file(
+        kind: u8,
+        start: u16,
+        end: u16,
+        name: *const u8,
+        name_len: usize,
+        bytes: *const u8,
+        len: usize,
+        leader0: u64,
+        leader1: u64,
+        out: *mut u32,
+        room: usize,
+    ) -> TapePut;
+
+    fn tape_read_file(
+        pulses: *const u32,
+        count: usize,
+        from: usize,
+        header: *mut u8,
+        header_room: usize,
+        data: *mut u8,
+        data_room: usize,
+    ) -> TapeFile;
+
+    fn tape_pack_header(
+        kind: u8,
+        start: u16,
+        end: u16,
+        name: *const u8,
+        name_len: usize,
+        out: *mut u8,
+        room: usize,
+    ) -> TapePut;
+
+    fn tape_unpack_header(header: *const u8, len: usize) -> TapeFile;
+
+    fn tape_shown_name(header: *const u8, len: usize) -> TapeSpan;
+
+    fn tape_write_tap(
+        durations: *const u32,
+        count: usize,
+        version: u8,
+        out: *mut u8,
+        room: usize,
+    ) -> TapePut;
+
+    fn tape_read_tap(file: *const u8, len: usize, out: *mut u32, room: usize) -> TapeTap;
+}
+
+/// Whether a call was accepted. A refusal must come with no numbers, and an
+/// acceptance with neither a block nor a place.
+fn accepted(refusal: u32, block: u32, place: u64, numbers: &[u64]) -> Result<(), Refusal> {
+    if refusal == 0 {
+        assert_eq!(
+            (block, place),
+            (0, 0),
+            "an accepted call names a block or a place"
+        );
+        return Ok(());
+    }
+    assert!(
+        numbers.iter().all(|&number| number == 0),
+        "refusal {refusal} comes with numbers {numbers:?}"
+    );
+    Err(Refusal {
+        number: refusal,
+        block,
+        place: size(place),
+    })
+}
+
+fn size(number: u64) -> usize {
+    usize::try_from(number).expect("a number of the library fits a size")
+}
+
+impl TapePut {
+    fn answer(self) -> Result<usize, Refusal> {
+        accepted(self.refusal, self.block, self.place, &[self.count])?;
+        Ok(size(self.count))
+    }
+}
+
+impl TapeBlock {
+    fn answer(self) -> Result<BlockRead, Refusal> {
+        let numbers = [self.n, self.start, self.end];
+        accepted(self.refusal, self.block, self.place, &numbers)?;
+        let [n, start, end] = numbers.map(size);
+        Ok(BlockRead { n, start, end })
+    }
+}
+
+impl TapeFile {
+    fn answer(self) -> Result<FileRead, Refusal> {
+        let [kind, start, end] = [self.kind, self.start, self.end];
+        let numbers = [kind.into(), start.into(), end.into(), self.stop];
+        accepted(self.refusal, self.block, self.place, &numbers)?;
+        Ok(FileRead {
+            header: Header {
+                kind: kind.try_into().expect("a type is a byte"),
+                start: start.try_into().expect("an address has 16 bits"),
+                end: end.try_into().expect("an address has 16 bits"),
+            },
+            stop: size(self.stop),
+        })
+    }
+}
+
+impl TapeTap {
+    fn answer(self) -> Result<TapRead, Refusal> {
+        let numbers = [self.version.into(), self.count];
+        accepted(self.refusal, self.block, self.place, &numbers)?;
+        Ok(TapRead {
+            version: self.version.try_into().expect("a version is a byte"),
+            count: size(self.count),
+        })
+    }
+}
+
+pub fn write_block(payload: &[u8], leader: u64, out: &mut [u32]) -> Result<usize, Refusal> {
+    // SAFETY: each pointer comes with the length of its slice.
+    let put = unsafe {
+        tape_write_block(
+            payload.as_ptr(),
+            payload.len(),
+            leader,
+            out.as_mut_ptr(),
+            out.len(),
+        )
+    };
+    put.answer()
+}
+
+pub fn read_block(
+    pulses: &[u32],
+    from: usize,
+    n: usize,
+    out: &mut [u8],
+) -> Result<BlockRead, Refusal> {
+    // SAFETY: each pointer comes with the length of its slice.
+    let block = unsafe {
+        tape_read_block(
+            pulses.as_ptr(),
+            pulses.len(),
+            from,
+            n,
+            out.as_mut_ptr(),
+            out.len(),
+        )
+    };
+    block.answer()
+}
+
+pub fn write_file(
+    header: Header,
+    name: &[u8],
+    bytes: &[u8],
+    leaders: [u64; 2],
+    out: &mut [u32],
+) -> Result<usize, Refusal> {
+    // SAFETY: each pointer comes with the length of its slice.
+    let put = unsafe {
+        tape_write_file(
+            header.kind,
+            header.start,
+            header.end,
+            name.as_ptr(),
+            name.len(),
+            bytes.as_ptr(),
+            bytes.len(),
+            leaders[0],
+            leaders[1],
+            out.as_mut_ptr(),
+            out.len(),
+        )
+    };
+    put.answer()
+}
+
+pub fn read_file(
+    pulses: &[u32],
+    from: usize,
+    header_out: &mut [u8],
+    data_out: &mut [u8],
+) -> Result<FileRead, Refusal> {
+    // SAFETY: each pointer comes with the length of its slice.
+    let file = unsafe {
+        tape_read_file(
+            pulses.as_ptr(),
+            pulses.len(),
+            from,
+            header_out.as_mut_ptr(),
+            header_out.len(),
+            data_out.as_mut_ptr(),
+            data_out.len(),
+        )
+    };
+    file.answer()
+}
+
+pub fn pack_header(header: Header, name: &[u8], out: &mut [u8]) -> Result<usize, Refusal> {
+    // SAFETY: each pointer comes with the length of its slice.
+    let put = unsafe {
+        tape_pack_header(
+            header.kind,
+            header.start,
+            header.end,
+            name.as_ptr(),
+            name.len(),
+            out.as_mut_ptr(),
+            out.len(),
+        )
+    };
+    put.answer()
+}
+
+pub fn unpack_header(bytes: &[u8]) -> Result<Header, Refusal> {
+    // SAFETY: the pointer comes with the length of its slice.
+    let file = unsafe { tape_unpack_header(bytes.as_ptr(), bytes.len()) };
+    let read = file.answer()?;
+    assert_eq!(read.stop, 0, "a lone header has no end of a data block");
+    Ok(read.header)
+}
+
+pub fn shown_name(bytes: &[u8]) -> Span {
+    // SAFETY: the pointer comes with the length of its slice.
+    let span = unsafe { tape_shown_name(bytes.as_ptr(), bytes.len()) };
+    Span {
+        offset: size(span.offset),
+        length: size(span.length),
+    }
+}
+
+pub fn write_tap(durations: &[u32], version: u8, out: &mut [u8]) -> Result<usize, Refusal> {
+    // SAFETY: each pointer comes with the length of its slice.
+    let put = unsafe {
+        tape_write_tap(
+            durations.as_ptr(),
+            durations.len(),
+            version,
+            out.as_mut_ptr(),
+            out.len(),
+        )
+    };
+    put.answer()
+}
+
+pub fn read_tap(file: &[u8], out: &mut [u32]) -> Result<TapRead, Refusal> {
+    // SAFETY: each pointer comes with the length of its slice.
+    let tap = unsafe { tape_read_tap(file.as_ptr(), file.len(), out.as_mut_ptr(), out.len()) };
+    tap.answer()
+}
