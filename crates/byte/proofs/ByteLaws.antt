@@ -92,11 +92,11 @@ module _ (ys : List Class) (v : ℕ) (e : readByte ys ≡ Good v) where
   abbrev value : ℕ
   value = valueOf (tabulate (nthBit ys) 8 1)
 
-  good-parts : (firstFrom (wrongPair ys) 10 0 ≡ none) × (value ≡ v) × (isOdd (ones value + nthBit ys 9) ≡ true)
+  pub good-parts : (firstFrom (wrongPair ys) 10 0 ≡ none) × (value ≡ v) × (isOdd (ones value + nthBit ys 9) ≡ true)
   unfolding readByte
   good-parts = checked-good (firstFrom (wrongPair ys) 10 0) value (nthBit ys 9) v e
 
-  good-sound : (i : ℕ) → i < 10 → isSound i (nthPair ys i) ≡ true
+  pub good-sound : (i : ℕ) → i < 10 → isSound i (nthPair ys i) ≡ true
   good-sound i h = not-false (isSound i (nthPair ys i)) (none-first (wrongPair ys) 10 0 (good-parts .0) i (omega arith) (omega arith))
 
   -- it has twenty pulses

@@ -4,4 +4,5 @@ mod Decoding
 mod Stores
 pub mod CodingLaws
 pub mod ByteLaws
+pub mod ValueLaws
 pub mod DamageLaws

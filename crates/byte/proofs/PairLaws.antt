@@ -17,16 +17,20 @@ use Rattle.pulse.proofs.PulseLaws.{class-at}
 use Rattle.byte.specs.declared.Pair.{Pair}
 use Rattle.byte.specs.Byte.{pairOf, bitOf, pairAt, nthPair, twenty}
 
-pub bit-lt : (p : Pair) → bitOf p < 2
-bit-lt p = go (p .one)
-  where
-    go : (t : Bool) → cond t 1 0 < 2
-    go true = lit< tt
-    go false = lit< tt
+-- ---- A flag as a bit
 
-pub bit-number : (t : Bool) → boolByte t ≡ cond t 1 0
-bit-number true = refl
-bit-number false = refl
+pub flag-lt : (t : Bool) → cond t 1 0 < 2
+flag-lt true = lit< tt
+flag-lt false = lit< tt
+
+pub flag-number : (t : Bool) → boolByte t ≡ cond t 1 0
+flag-number true = refl
+flag-number false = refl
+
+pub bit-lt : (p : Pair) → bitOf p < 2
+bit-lt p = flag-lt (p .one)
+
+-- ---- Where pairs stand
 
 -- two pulses that are no pair
 abbrev pub noPair : Pair

@@ -14,7 +14,7 @@ ghost use lib.ListN.{length};
 ghost use lib.Seq.{sets};
 ghost use Rattle.lists.specs.Buffer.{hasRoom, putAt};
 ghost use Rattle.pulse.specs.Pulse.{classOf, classes, pulses};
-ghost use Rattle.byte.specs.Byte.{isOdd, bits, parityBit, coded, bytePulses, pairOf, isSound, bitOf, byteAt};
+ghost use Rattle.byte.specs.Byte.{isOdd, bits, parityBit, coded, bytePulses, pairOf, isSound, bitOf, byteAt, bitsAt};
 ghost use Rattle.byte.specs.Decoder.{empty, firstWrong, fed, closed};
 
 // What twenty pulses are.
@@ -55,6 +55,27 @@ pub fn read_byte(t: Thresholds, strip: &[u32], at: usize) -> ByteRead
         i = i + 1;
     }
     d.close()
+}
+
+// The number whose bits are the eight bit pairs of the twenty pulses at an index, each by its first pulse alone: 1 where
+// that is not below the medium threshold. 0 where there are fewer than twenty.
+pub fn value_at(t: Thresholds, strip: &[u32], at: usize) -> u8
+    ensures { λ r. ⌜ r ≡ bitsAt t (now (strip .entry)) at ⌝ }
+{
+    if strip.len() < BYTE_PULSES {
+        return 0;
+    }
+    if strip.len() - BYTE_PULSES < at {
+        return 0;
+    }
+    let mut value: u8 = 0;
+    let mut i: usize = 0;
+    while i < BITS {
+        let j = at + PAIR_PULSES * (1 + i);
+        value = value | ((t.medium <= strip[j]) as u8) << i;
+        i = i + 1;
+    }
+    value
 }
 
 // Puts the twenty pulses of a byte at an index, and answers whether there was room. Without room nothing is put.

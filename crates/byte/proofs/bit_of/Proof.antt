@@ -1,6 +1,6 @@
 -- `byte::bit_of` meets its contract: a flag as a number.
 use borrow.Author.Needs.{needs}
-use Rattle.byte.proofs.PairLaws.{bit-number}
+use Rattle.byte.proofs.PairLaws.{flag-number}
 use Rattle.byte.proofs.bit_of.Statement.{statement}
 use Rattle.byte.proofs.bit_of.Tie as tie
 
@@ -8,7 +8,7 @@ cast-result : tie.Need-cast-result
 cast-result c = search needs
 
 returns : tie.Need-returns
-returns c = bit-number (c .before .args .p .one)
+returns c = flag-number (c .before .args .p .one)
 
 pub bit-of-spec : {M : Type 1} → statement M
 bit-of-spec = tie.close (tie.spec cast-result returns)
