@@ -1,12 +1,11 @@
 -- Laws of bits as pulses: how many there are, and where they stand.
-use Prim.Native.Nat.{ℕ, zero, suc, _+_, _*_, _%_, _^_, _<_}
+use Prim.Native.Nat.{ℕ, zero, suc, _+_, _*_, _^_, _<_}
 use native.Mathlib.Nat.{pow-suc, add-comm}
 use native.Mathlib.Omega.{arith}
 use mathlib.Core.Path.{_≡_, refl, sym, ap, _∙_}
 use mathlib.Core.List.{List, [], _∷_, _++_}
 use lib.Bits.{bitOr, or-shifted-r}
 use lib.ListN.{length, length-append, length-map}
-use lib.Pow.{shl-exact}
 use Rattle.lists.specs.Places.{tabulate}
 use Rattle.lists.proofs.PlaceLaws.{tabulate-snoc, length-tabulate}
 use Rattle.pulse.specs.declared.Class.{Class}
@@ -61,11 +60,10 @@ unfolding tabulate valueOf
 value-lt f h zero at = omega arith
 value-lt f h (suc count) at = let r = value-lt f h count (suc at) in rw (pow-suc 2 count) (omega (arith, h at))
 
--- one bit more, shifted to its place above the others, in a number of w bits
-pub value-or : (f : ℕ → ℕ) → ((j : ℕ) → f j < 2) → (w count at : ℕ) → count < w
-    → bitOr (valueOf (tabulate f count at)) (f (at + count) * 2 ^ count % 2 ^ w) ≡ valueOf (tabulate f (suc count) at)
-value-or f h w count at l =
+-- one bit more, shifted to its place above the others
+pub value-or : (f : ℕ → ℕ) → ((j : ℕ) → f j < 2) → (count at : ℕ)
+    → bitOr (valueOf (tabulate f count at)) (f (at + count) * 2 ^ count) ≡ valueOf (tabulate f (suc count) at)
+value-or f h count at =
     let d = f (at + count) in
     let v = valueOf (tabulate f count at) in
-    rw (shl-exact {a = d} 1 count w (h (at + count)) (omega arith), value-next f count at)
-    (or-shifted-r d count v (value-lt f h count at) ∙ add-comm (d * 2 ^ count) v)
+    or-shifted-r d count v (value-lt f h count at) ∙ add-comm (d * 2 ^ count) v ∙ sym (value-next f count at)

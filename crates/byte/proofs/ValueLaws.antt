@@ -10,6 +10,7 @@ use borrow.Author.Tests.{le-leb, lt-leb, ne-eqb}
 use lib.Bits.{bitOr}
 use lib.Dec.{leb, ltb}
 use lib.ListN.{length, getD, length-map}
+use lib.Pow.{shl-exact}
 use Rattle.lists.specs.Places.{tabulate}
 use Rattle.lists.proofs.BoolLaws.{leb-not}
 use Rattle.pulse.specs.declared.Thresholds.{Thresholds}
@@ -83,7 +84,8 @@ module _ (t : Thresholds) (strip : List ℕ) (at : ℕ) where
       → BitsRead (bitOr value (boolByte (leb (t .medium) (getD strip (at + 2 * (1 + i)) 0)) * 2 ^ i % 2 ^ 8)) (i + 1)
   bits-next {value} {i} h e =
       let f = leadBit t strip at in
-      rw (add-one, flag-number (leb (t .medium) (getD strip (at + 2 * (1 + i)) 0)), e) (value-or f (λ j. flag-lt (leb (t .medium) (getD strip (at + 2 * j) 0))) 8 i 1 h)
+      let small : (j : ℕ) → f j < 2 = λ j. flag-lt (leb (t .medium) (getD strip (at + 2 * j) 0)) in
+      rw (add-one, flag-number (leb (t .medium) (getD strip (at + 2 * (1 + i)) 0)), shl-exact {a = f (1 + i)} 1 i 8 (small (1 + i)) (omega arith), e) (value-or f small i 1)
 
   pub bits-done : {value i : ℕ} → at + 20 ≤ length strip → i ≡ 8 → BitsRead value i → value ≡ bitsAt t strip at
   unfolding bitsAt

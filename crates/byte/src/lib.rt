@@ -7,7 +7,7 @@
 use pulse::Class;
 use pulse::Cycles;
 use pulse::Thresholds;
-ghost use Prim.Native.Nat.{_+_, _≤_};
+ghost use Prim.Native.Nat.{_+_, _≤_, _<_};
 ghost use mathlib.Core.Path.{_≡_};
 ghost use mathlib.Core.List.{[], _∷_};
 ghost use lib.ListN.{length};
@@ -15,7 +15,7 @@ ghost use lib.Seq.{sets};
 ghost use Rattle.lists.specs.Buffer.{hasRoom, putAt};
 ghost use Rattle.pulse.specs.Pulse.{classOf, classes, pulses};
 ghost use Rattle.byte.specs.Byte.{isOdd, bits, parityBit, coded, bytePulses, pairOf, isSound, bitOf, byteAt, bitsAt};
-ghost use Rattle.byte.specs.Decoder.{empty, firstWrong, fed, closed};
+ghost use Rattle.byte.specs.Decoder.{empty, fed, closed};
 
 // What twenty pulses are.
 pub enum ByteRead {
@@ -34,8 +34,12 @@ const BITS: usize = 8;
 // Where the parity pair stands.
 const PARITY_AT: usize = PAIR_PULSES * (1 + BITS);
 
-// The place value of the ninth bit.
-const NINTH: u32 = 256;
+// The place values of the first bit and of the parity bit among a decoder's bits, and how many values a byte has.
+const FIRST: u32 = 2;
+
+const VALUES: u32 = 256;
+
+const PARITY: u32 = FIRST * VALUES;
 
 // The byte at an index of a strip. Fewer than twenty pulses there are bad.
 pub fn read_byte(t: Thresholds, strip: &[u32], at: usize) -> ByteRead
@@ -112,9 +116,10 @@ fn pair_of(t: Thresholds, first: Cycles, second: Cycles) -> Pair
     }
 }
 
-// A byte that is read pair by pair: the first wrong pair, or 10, and the bits so far, the newest at the top of nine.
+// A byte that is read pair by pair: whether all pairs so far are what they have to be, and their bits, that of pair i at
+// place i. The marker has no bit.
 struct Decoder {
-    wrong: usize,
+    sound: bool,
     bits: u32,
 }
 
@@ -123,18 +128,19 @@ impl Decoder {
         ensures { λ r. ⌜ r ≡ empty ⌝ }
     {
         Decoder {
-            wrong: PAIRS,
+            sound: true,
             bits: 0,
         }
     }
 
     // The decoder after pair i, which follows pair i - 1.
     fn feed(self, i: usize, p: Pair) -> Decoder
+        requires { ⌜ i < 10 ⌝ }
         ensures { λ r. ⌜ r ≡ fed self i p ⌝ }
     {
         Decoder {
-            wrong: first_wrong(self.wrong, i, p),
-            bits: self.bits / 2 + NINTH * bit_of(p),
+            sound: self.sound & is_sound(i, p),
+            bits: self.bits | bit_of(p) << i,
         }
     }
 
@@ -142,12 +148,9 @@ impl Decoder {
     fn close(self) -> ByteRead
         ensures { λ r. ⌜ r ≡ closed self ⌝ }
     {
-        let value = (self.bits % NINTH) as u8;
-        let parity = self.bits / NINTH;
-        if self.wrong < PAIRS {
-            return ByteRead::Bad;
-        }
-        if is_odd(u8::count_ones(value) + parity) {
+        let value = (self.bits / FIRST % VALUES) as u8;
+        let parity = self.bits / PARITY;
+        if self.sound & is_odd(u8::count_ones(value) + parity) {
             ByteRead::Good(value)
         } else {
             ByteRead::Bad
@@ -160,19 +163,6 @@ fn is_sound(i: usize, p: Pair) -> bool
     ensures { λ r. ⌜ r ≡ isSound i p ⌝ }
 {
     if i == 0 { p.marker } else { p.zero | p.one }
-}
-
-// The first wrong pair, with pair i after those that `wrong` speaks of.
-fn first_wrong(wrong: usize, i: usize, p: Pair) -> usize
-    ensures { λ r. ⌜ r ≡ firstWrong wrong i p ⌝ }
-{
-    if wrong < PAIRS {
-        return wrong;
-    }
-    if is_sound(i, p) {
-        return wrong;
-    }
-    i
 }
 
 // The bit that a pair is, 0 where it is none.

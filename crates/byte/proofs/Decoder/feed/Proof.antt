@@ -1,26 +1,28 @@
 -- `byte::Decoder::feed` meets its contract: it is `fed`, field by field.
-use Prim.Native.Nat.{_+_, _*_, _/_}
 use native.Mathlib.Omega.{arith}
-use mathlib.Core.Path.{ap₂}
 use borrow.Author.Needs.{needs}
+use lib.Pow.{shl-exact}
+use Rattle.byte.specs.Byte.{bitOf}
 use Rattle.byte.proofs.PairLaws.{bit-lt}
 use Rattle.byte.proofs.Decoder.feed.Statement.{statement}
 use Rattle.byte.proofs.Decoder.feed.Tie as tie
 
-first-wrong-requires : tie.Need-first-wrong-requires
-first-wrong-requires c κs = search needs
+is-sound-requires : tie.Need-is-sound-requires
+is-sound-requires c κs = search needs
 
 bit-of-requires : tie.Need-bit-of-requires
 bit-of-requires c κs = search needs
 
-mul-t7 : tie.Need-mul-t7
-mul-t7 c = omega (arith, c .bit-of .ensures, bit-lt (c .before .before .before .args .p))
+cast-t7 : tie.Need-cast-t7
+cast-t7 c = search needs
 
-add-t8 : tie.Need-add-t8
-add-t8 c = omega (arith, c .bit-of .ensures, bit-lt (c .before .before .before .args .p))
+shl-t8 : tie.Need-shl-t8
+shl-t8 c = search needs
 
 returns : tie.Need-returns
-returns c = ap₂ (λ x y. record { wrong = x; bits = c .before .before .before .args .self .bits / 2 + 256 * y }) (c .before .before .first-wrong .ensures) (c .bit-of .ensures)
+returns c =
+    let a = c .before .before .before .before .args in
+    rw (c .before .before .before .is-sound .ensures, c .before .bit-of .ensures, shl-exact {a = bitOf (a .p)} 1 (a .i) 32 (bit-lt (a .p)) (omega arith))
 
 pub feed-spec : {M : Type 1} → statement M
-feed-spec = tie.close (tie.spec first-wrong-requires bit-of-requires mul-t7 add-t8 returns)
+feed-spec = tie.close (tie.spec is-sound-requires bit-of-requires cast-t7 shl-t8 returns)
