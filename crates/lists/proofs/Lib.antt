@@ -5,3 +5,4 @@ pub mod BufferLaws
 pub mod LoopLaws
 pub mod Table
 pub mod TextLaws
+pub mod FlagLaws

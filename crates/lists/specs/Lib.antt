@@ -1,3 +1,4 @@
 pub mod Places
 pub mod Buffer
 pub mod Text
+pub mod Flags
