@@ -1,7 +1,6 @@
 mod Parity
 mod PairLaws
 mod Decoding
-mod Nibbles
 mod Stores
 pub mod CodingLaws
 pub mod ByteLaws

@@ -28,6 +28,31 @@ unfolding coded
 coded-one zero h = absurd (h refl)
 coded-one (suc d) h = refl
 
+-- ---- The eight bits: with i of them put, the rest put after them gives the whole
+
+module _ (out₀ : List ℕ) (at b : ℕ) where
+  abbrev pub BitsPut : List ℕ → ℕ → ℕ → Type 0
+  BitsPut out rest i = Putting out₀ at (pulses (coded (bits 8 b))) out (at + 2 * i) (pulses (coded (bits (8 - i) rest)))
+
+  pub begun : BitsPut out₀ b 0
+  begun = put-begun out₀ at (at + 2 * 0) _ _ (omega arith) refl
+
+  module _ {out : List ℕ} (rest : ℕ) {i : ℕ} (u : BitsPut out rest i) where
+    pub next : {out′ : List ℕ} → i < 8 → out′ ≡ sets out (at + 2 * i) (pulses (coded (rest % 2 ∷ []))) → BitsPut out′ (rest / 2) (i + 1)
+    unfolding bits
+    next more e =
+        let s : 8 - i ≡ suc (8 - (i + 1)) = omega arith in
+        let now = coded (rest % 2 ∷ []) in
+        let left = coded (bits (8 - (i + 1)) (rest / 2)) in
+        put-next u (pulses now) (pulses left)
+        (ap (λ k. pulses (coded (bits k rest))) s ∙ ap pulses (coded-append (rest % 2 ∷ []) (bits (8 - (i + 1)) (rest / 2))) ∙ map-append writtenAs now left)
+        e
+        (rw (length-map now writtenAs, length-coded (rest % 2 ∷ [])) (omega arith))
+
+    pub done : 8 ≤ i → out ≡ sets out₀ at (pulses (coded (bits 8 b)))
+    unfolding bits coded
+    done last = put-done u (ap (λ k. pulses (coded (bits k rest))) (let z : 8 - i ≡ 0 = omega arith in z))
+
 -- ---- The whole byte
 
 pub put-nothing : (out : List ℕ) (at b : ℕ) → length out < at + 20 → (false ≡ hasRoom out at 20) × (out ≡ putAt out at (bytePulses b))

@@ -31,13 +31,6 @@ pub const BYTE_PULSES: usize = PAIR_PULSES * PAIRS;
 
 const BITS: usize = 8;
 
-// Half of a byte's bits, how many numbers these can be, and their pulses.
-const NIBBLE_BITS: usize = BITS / 2;
-
-const NIBBLE_RANGE: usize = 16;
-
-const NIBBLE_PULSES: usize = PAIR_PULSES * NIBBLE_BITS;
-
 // Where the parity pair stands.
 const PARITY_AT: usize = PAIR_PULSES * (1 + BITS);
 
@@ -218,43 +211,11 @@ fn put_bits(out: &mut [u32], at: usize, b: u8)
     requires { ⌜ at + 16 ≤ length (now out) ⌝ }
     ensures { λ _. ⌜ now (out .exit) ≡ sets (now (out .entry)) at (pulses (coded (bits 8 b))) ⌝ }
 {
-    let n = b as usize;
-    put_nibble(out, at, n % NIBBLE_RANGE);
-    put_nibble(out, at + NIBBLE_PULSES, n / NIBBLE_RANGE);
-}
-
-// Puts four bits.
-fn put_nibble(out: &mut [u32], at: usize, n: usize)
-    requires { ⌜ (n < 16) × (at + 8 ≤ length (now out)) ⌝ }
-    ensures { λ _. ⌜ now (out .exit) ≡ sets (now (out .entry)) at (pulses (coded (bits 4 n))) ⌝ }
-{
+    let mut rest = b;
     let mut i: usize = 0;
-    while i < NIBBLE_PULSES {
-        out[at + i] = NIBBLES[n][i];
+    while i < BITS {
+        put_bit(out, at + PAIR_PULSES * i, rest % 2);
+        rest = rest / 2;
         i = i + 1;
     }
 }
-
-const S: u32 = pulse::SHORT_CYCLES;
-
-const M: u32 = pulse::MEDIUM_CYCLES;
-
-// The pulses of every four bits, by the number that they are.
-const NIBBLES: [[u32; NIBBLE_PULSES]; NIBBLE_RANGE] = [
-    [S, M, S, M, S, M, S, M],
-    [M, S, S, M, S, M, S, M],
-    [S, M, M, S, S, M, S, M],
-    [M, S, M, S, S, M, S, M],
-    [S, M, S, M, M, S, S, M],
-    [M, S, S, M, M, S, S, M],
-    [S, M, M, S, M, S, S, M],
-    [M, S, M, S, M, S, S, M],
-    [S, M, S, M, S, M, M, S],
-    [M, S, S, M, S, M, M, S],
-    [S, M, M, S, S, M, M, S],
-    [M, S, M, S, S, M, M, S],
-    [S, M, S, M, M, S, M, S],
-    [M, S, S, M, M, S, M, S],
-    [S, M, M, S, M, S, M, S],
-    [M, S, M, S, M, S, M, S],
-];

@@ -1,31 +1,62 @@
--- `byte::put_bits` meets its contract: the lower and the upper nibble are stored one after the other.
+-- `byte::put_bits` meets its contract. The invariant: what the loop has put, and the bits left to put after it, are the eight bits.
+use Prim.Native.Nat.{_-_, _≤_}
 use native.Mathlib.Omega.{arith}
-use borrow.Author.Needs.{needs}
 use denote.Ref.{now}
-use Rattle.byte.proofs.Nibbles.{both}
+use Rattle.byte.proofs.Stores.{BitsPut, begun, next, done}
 use Rattle.byte.proofs.put_bits.Statement.{statement}
 use Rattle.byte.proofs.put_bits.Tie as tie
 
-put-nibble-requires : tie.Need-put-nibble-requires
-put-nibble-requires c κs = search needs
+abbrev Inv-loop : tie.InvT-loop
+Inv-loop out₀ at b rest₀ i₀ out rest i = (i ≤ 8) × BitsPut out₀ at b out rest i
 
-add-put-nibble : tie.Need-add-put-nibble
-add-put-nibble c = search needs
+abbrev μ-loop : tie.MeasureT-loop
+μ-loop out₀ at b rest₀ i₀ out rest i = 8 - i
 
-put-nibble-requires-2 : tie.Need-put-nibble-requires-2
-put-nibble-requires-2 c κs = search needs
+loop-holds : tie.Need-loop-holds Inv-loop μ-loop
+loop-holds c = let a = c .before .args in (omega arith, begun (now (a .out)) (a .at) (a .b))
 
-same-length : tie.Need-same-length
-same-length c = search needs
+mul-put-bit : tie.Need-mul-put-bit Inv-loop μ-loop
+mul-put-bit c = omega arith
 
-returns : tie.Need-returns
+add-put-bit : tie.Need-add-put-bit Inv-loop μ-loop
+add-put-bit c = omega arith
+
+put-bit-requires : tie.Need-put-bit-requires Inv-loop μ-loop
+put-bit-requires c κs = omega arith
+
+add-i : tie.Need-add-i Inv-loop μ-loop
+add-i c = omega arith
+
+loop-less : tie.Need-loop-less Inv-loop μ-loop
+loop-less c = omega arith
+
+loop-again : tie.Need-loop-again Inv-loop μ-loop
+loop-again c =
+    let h = c .before .before .before .before .before in
+    let a = h .before .before .args in
+    (omega arith, next (now (a .out)) (a .at) (a .b) (h .loop .rest) (h .loop .inv .1) (c .before .before .before .before .loop-test .taken) (c .before .before .put-bit .ensures))
+
+same-length : tie.Need-same-length Inv-loop μ-loop
+same-length c = omega arith
+
+returns : tie.Need-returns Inv-loop μ-loop
 returns c =
-    let two = c .before .before in
-    let one = two .before .before .before .before in
-    let a = one .before .before .before .args in
-    both (now (a .out)) (a .at) (a .b) (omega arith) (one .put-nibble .ensures) (two .put-nibble2 .ensures)
+    let h = c .before in
+    let a = h .before .before .args in
+    done (now (a .out)) (a .at) (a .b) (h .loop .rest) (h .loop .inv .1) (c .loop-test .left)
 
 pub put-bits-spec : {M : Type 1} → statement M
 put-bits-spec =
     tie.close
-    (tie.spec put-nibble-requires add-put-nibble put-nibble-requires-2 same-length returns)
+    (tie.spec
+    Inv-loop
+    μ-loop
+    loop-holds
+    mul-put-bit
+    add-put-bit
+    put-bit-requires
+    add-i
+    loop-less
+    loop-again
+    same-length
+    returns)
