@@ -1,84 +1,142 @@
--- The search for a start: what its loop knows at a place.
-use Prim.Native.Nat.{ℕ, _+_, _≤_, _<_}
-use native.Mathlib.Nat.{eq-or-lt-of-le}
+-- The search for a start: what its loop knows, and what its looks for a pulse that is not short tell it.
+use Prim.Native.Nat.{ℕ, zero, suc, _+_, _-_, _≤_, _<_}
+use native.Mathlib.Decide.{decLt, ℕ-discrete}
 use native.Mathlib.Omega.{arith}
-use mathlib.Core.Path.{_≡_, sym, _∙_}
-use mathlib.Core.Logic.{_⊎_, inl, inr, ⊎-elim}
-use mathlib.Core.Bool.{true, false}
+use mathlib.Core.Path.{_≡_, refl, sym, ap, _∙_}
+use mathlib.Core.Bool.{Bool, true, false, not}
 use mathlib.Core.List.{List}
 use mathlib.Core.Option.{none, some}
+use borrow.Author.Tests.{not-true, not-false}
 use lib.ListN.{length, getD}
-use Rattle.lists.proofs.LoopLaws.{firstLeft, first-passed, first-here, first-over, first-skipped}
+use Rattle.lists.specs.Places.{firstFrom, First}
+use Rattle.lists.proofs.PlaceLaws.{none-first, some-first}
+use Rattle.pulse.specs.declared.Thresholds.{Thresholds}
 use Rattle.pulse.specs.declared.Class.{Class}
 use Rattle.pulse.specs.declared.Class.the-variants.{Short, Noise}
-use Rattle.pulse.specs.Pulse.{same}
-use Rattle.pulse.proofs.PulseLaws.{same-eq}
+use Rattle.pulse.specs.Pulse.{classOf, classes, same}
+use Rattle.pulse.proofs.PulseLaws.{class-at, same-eq}
 use Rattle.byte.specs.Byte.{byteAt, isGood}
-use Rattle.byte.proofs.ByteLaws.{good-is, byteAt-short}
-use Rattle.block.specs.Reading.{isStart, Start, startOf}
-use Rattle.block.proofs.StartLaws.{start-passes, start-fails, start-shorts, shorts-before}
+use Rattle.byte.proofs.ByteLaws.{good-is, byteAt-short, byteAt-within}
+use Rattle.block.specs.Reading.{Start, startOf}
+use Rattle.block.specs.Search.{notShort, lastFrom}
+use Rattle.block.proofs.StartLaws.{start-some, start-none, start-shorts, shorts-before}
 
--- At `at`: `run` short pulses stand just before it, all at or after `from`, and no more; no start so far.
-pub record Searching (cs : List Class) (from at run : ℕ) : Type 0 where
-  pub ran : from + run ≤ at
-  pub shorts : (i : ℕ) → at ≤ i + run → i < at → getD cs i Noise ≡ Short
-  pub edge : (from + run ≡ at) ⊎ ((i : ℕ) × (i + run + 1 ≡ at) × (same (getD cs i Noise) Short ≡ false))
-  pub left : firstLeft (isStart cs from) (length cs) at ≡ startOf cs from
+-- ---- lastFrom
 
-pub begun : (cs : List Class) (from : ℕ) → Searching cs from from 0
-unfolding startOf
-begun cs from = record {
-  ran = omega arith;
-  shorts = λ i a b. absurd (omega arith);
-  edge = inl (omega arith);
-  left = first-skipped (isStart cs from) (length cs) from (λ i h. start-fails (λ s. omega (arith, s .far)));
-}
+module _ (f : ℕ → Bool) (at : ℕ) where
+  -- the last of them does not pass; it passes
+  pub last-passed : (count : ℕ) → 0 < count → f (at + (count - 1)) ≡ false → lastFrom f (count - 1) at ≡ lastFrom f count at
+  unfolding lastFrom
+  last-passed zero h e = absurd (omega arith)
+  last-passed (suc count) h e = let z : suc count - 1 ≡ count = omega arith in rw (z, rw z at e)
 
-module _ {cs : List Class} {from at run : ℕ} (u : Searching cs from at run) where
-  pub ended : length cs ≤ at → none ≡ startOf cs from
-  ended h = sym (first-over (isStart cs from) (length cs) at h) ∙ u .left
+  pub last-here : (count : ℕ) → 0 < count → f (at + (count - 1)) ≡ true → lastFrom f count at ≡ some (at + (count - 1))
+  unfolding lastFrom
+  last-here zero h e = absurd (omega arith)
+  last-here (suc count) h e = let z : suc count - 1 ≡ count = omega arith in rw (z, rw z at e)
 
-  module _ (more : at < length cs) where
-    no-start : (Start cs from at → ⊥) → firstLeft (isStart cs from) (length cs) (at + 1) ≡ startOf cs from
-    no-start h = first-passed (isStart cs from) (length cs) at more (start-fails h) ∙ u .left
+  pub last-over : lastFrom f 0 at ≡ none
+  unfolding lastFrom
+  last-over = refl
 
-    -- a short pulse: no byte begins with it
-    pub one-more : same (getD cs at Noise) Short ≡ true → Searching cs from (at + 1) (run + 1)
-    one-more e =
-        let short : getD cs at Noise ≡ Short = same-eq (getD cs at Noise) Short e in
-        record {
-          ran = omega arith;
-          shorts = λ i a b. ⊎-elim (λ (q : i ≡ at). rw q short) (λ (h : i < at). u .shorts i (omega arith) h) (eq-or-lt-of-le (omega arith));
-          edge = ⊎-elim (λ q. inl (omega arith)) (λ w. inr (w .0, omega arith, w .2)) (u .edge);
-          left = no-start (λ s. let b = rw (s .first) at (byteAt-short cs at short) in let z : _≡_ {A = ℕ} 0 1 = cc in omega arith);
-        }
+  -- what is found passes
+  pub some-last : (count p : ℕ) → lastFrom f count at ≡ some p → (at ≤ p) × (p < at + count) × (f p ≡ true)
+  unfolding lastFrom
+  some-last zero p e = absurd (let z : _≡_ {A = ℕ} 0 1 = cc in omega arith)
+  some-last (suc count) p e = go (some-last count p) (f (at + count)) refl
+    where
+      go : (lastFrom f count at ≡ some p → (at ≤ p) × (p < at + count) × (f p ≡ true)) → (t : Bool) → f (at + count) ≡ t → (at ≤ p) × (p < at + suc count) × (f p ≡ true)
+      go earlier true t = let z : at + count ≡ p = (let e′ = rw t at e in cc) in (omega arith, omega arith, rw (← z) t)
+      go earlier false t = let r = earlier (rw t at e) in (omega arith, omega arith, r .2)
 
-    -- another pulse, and no start
-    pub over : same (getD cs at Noise) Short ≡ false → (Start cs from at → ⊥) → Searching cs from (at + 1) 0
-    over e h = record {
-      ran = omega arith;
-      shorts = λ i a b. absurd (omega arith);
-      edge = inr (at, omega arith, e);
-      left = no-start h;
-    }
+  -- where none is found, none passes
+  pub none-last : (count : ℕ) → lastFrom f count at ≡ none → (i : ℕ) → at ≤ i → i < at + count → f i ≡ false
+  unfolding lastFrom
+  none-last zero e i a b = absurd (omega arith)
+  none-last (suc count) e i a b = go (λ e′. none-last count e′ i a) (f (at + count)) refl (ℕ-discrete (at + count) i)
+    where
+      go : (lastFrom f count at ≡ none → i < at + count → f i ≡ false) → (t : Bool) → f (at + count) ≡ t → Dec (at + count ≡ i) → f i ≡ false
+      go r true t d = absurd (let z : _≡_ {A = ℕ} 0 1 = (let e′ = rw t at e in cc) in omega arith)
+      go r false t (yes d) = rw (← d) t
+      go r false t (no d) = r (rw t at e) (omega arith)
 
-    -- too few short pulses before it
-    pub few : run < 16 → Start cs from at → ⊥
-    unfolding same
-    few h s = ⊎-elim
-        (λ e. omega (arith, s .far))
-        (λ w. let e = rw (start-shorts s (w .0) (omega arith) (omega arith)) at (w .2) in let z : _≡_ {A = ℕ} 0 1 = cc in omega arith)
-        (u .edge)
+-- ---- A pulse that is not short
 
-    -- enough of them: the byte decides
-    pub other-byte : isGood 0x89 (byteAt cs at) ≡ false → Start cs from at → ⊥
-    other-byte e s = let e′ = rw (s .first) at e in let z : _≡_ {A = ℕ} 0 1 = cc in omega arith
+pub not-short-at : (t : Thresholds) (strip : List ℕ) (i : ℕ) → i < length strip → notShort (classes t strip) i ≡ not (same (classOf t (getD strip i 0)) Short)
+not-short-at t strip i h = ap (λ k. not (same k Short)) (class-at t strip i h)
 
-    pub found : 16 ≤ run → isGood 0x89 (byteAt cs at) ≡ true → some at ≡ startOf cs from
-    found h e =
-        let s : Start cs from at = record {
-          far = omega arith;
-          shorts = shorts-before cs at (omega arith) (omega arith) (λ i a b. u .shorts i (omega arith) b);
-          first = good-is 0x89 (byteAt cs at) e;
-        } in
-        sym (first-here (isStart cs from) (length cs) at more (start-passes s)) ∙ u .left
+module _ (cs : List Class) (i : ℕ) where
+  pub is-short : notShort cs i ≡ false → getD cs i Noise ≡ Short
+  is-short e = same-eq (getD cs i Noise) Short (not-false (same (getD cs i Noise) Short) e)
+
+  -- it is not among the sixteen before a start
+  pub not-before : notShort cs i ≡ true → {from p : ℕ} → i < p → p ≤ i + 16 → Start cs from p → ⊥
+  unfolding same
+  not-before e a b s = let e′ = rw (start-shorts s i b a) at e in let z : _≡_ {A = ℕ} 0 1 = cc in omega arith
+
+-- ---- The loop
+
+-- At `at`: no place below at + 16 is a start.
+pub record Searching (cs : List Class) (from at : ℕ) : Type 0 where
+  pub low : from ≤ at
+  pub passed : (p : ℕ) → p < at + 16 → Start cs from p → ⊥
+
+pub begun : (cs : List Class) (from : ℕ) → Searching cs from from
+begun cs from = record { low = omega arith; passed = λ p h s. omega (arith, s .far) }
+
+module _ {cs : List Class} {n from at : ℕ} (long : length cs ≡ n) (u : Searching cs from at) where
+  -- too few pulses are left
+  pub ended : n - at < 16 → none ≡ startOf cs from
+  ended h = sym (start-none (λ p s. u .passed p (omega (arith, byteAt-within cs p 0x89 (s .first))) s))
+
+  -- the search goes on after a pulse that is not short
+  jumped : (i : ℕ) → at ≤ i → notShort cs i ≡ true → ((p : ℕ) → p ≤ i → Start cs from p → ⊥) → Searching cs from (i + 1)
+  jumped i l e h = record {
+    low = omega (arith, u .low);
+    passed = λ p b s. elim (decLt i p) [
+      | yes a ↦ not-before cs i e a (omega arith) s
+      | no a ↦ h p (omega arith) s
+    ];
+  }
+
+  -- one of the sixteen is not short
+  pub broken : {i : ℕ} → lastFrom (notShort cs) 16 at ≡ some i → Searching cs from (i + 1)
+  broken {i} e =
+      let (l, h, t) = some-last (notShort cs) at 16 i e in
+      jumped i l t (λ p b s. u .passed p (omega arith) s)
+
+  -- no byte begins with a short pulse after them
+  run-over : {end : ℕ} → ((i : ℕ) → at + 16 ≤ i → i < end → notShort cs i ≡ false) → (p : ℕ) → p < end → Start cs from p → ⊥
+  run-over h p b s = elim (decLt p (at + 16)) [
+    | yes a ↦ u .passed p a s
+    | no a ↦ let bad = rw (s .first) at (byteAt-short cs p (is-short cs p (h p (omega arith) b))) in let z : _≡_ {A = ℕ} 0 1 = cc in omega arith
+  ]
+
+  -- only short pulses follow
+  pub run-lasts : firstFrom (notShort cs) (n - (at + 16)) (at + 16) ≡ none → none ≡ startOf cs from
+  run-lasts e =
+      let h = none-first (notShort cs) (n - (at + 16)) (at + 16) e in
+      sym (start-none (λ p s. run-over {end = n} (λ i a b. h i a (omega arith)) p (omega (arith, byteAt-within cs p 0x89 (s .first))) s))
+
+  -- the run of short pulses ends
+  module _ {end : ℕ} (e : firstFrom (notShort cs) (n - (at + 16)) (at + 16) ≡ some end) where
+    pub run-ends : First (notShort cs) (n - (at + 16)) (at + 16) end
+    run-ends = some-first (notShort cs) (n - (at + 16)) (at + 16) end e
+
+    pub other-byte : isGood 0x89 (byteAt cs end) ≡ false → Searching cs from (end + 1)
+    other-byte b = jumped end (omega (arith, run-ends .low)) (run-ends .passes) (λ p h s. elim (ℕ-discrete p end) [
+      | yes q ↦ let b′ = rw (← q, s .first) at b in let z : _≡_ {A = ℕ} 0 1 = cc in omega arith
+      | no q ↦ run-over (run-ends .least) p (omega arith) s
+    ])
+
+    pub found : lastFrom (notShort cs) 16 at ≡ none → isGood 0x89 (byteAt cs end) ≡ true → some end ≡ startOf cs from
+    found all b =
+        let w = none-last (notShort cs) at 16 all in
+        let short : (i : ℕ) → at ≤ i → i < end → getD cs i Noise ≡ Short =
+            λ i l h. is-short cs i (elim (decLt i (at + 16)) [ yes a ↦ w i l a | no a ↦ run-ends .least i (omega arith) h ]) in
+        let far : at + 16 ≤ end = run-ends .low in
+        sym (start-some (record {
+          far = omega (arith, u .low);
+          shorts = shorts-before cs end (omega arith) (omega (arith, run-ends .high)) (λ i l h. short i (omega arith) h);
+          first = good-is 0x89 (byteAt cs end) b;
+        }) (run-over (run-ends .least)))

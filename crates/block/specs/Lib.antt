@@ -1,4 +1,5 @@
 pub mod Block
 pub mod Reading
 pub mod Checks
+pub mod Search
 pub mod Damage

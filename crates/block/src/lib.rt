@@ -11,7 +11,7 @@ use pulse::Thresholds;
 use refusal::Put;
 use refusal::Reason;
 use refusal::Refusal;
-ghost use Prim.Native.Nat.{_+_, _*_, _≤_, _<_};
+ghost use Prim.Native.Nat.{_+_, _-_, _*_, _≤_, _<_};
 ghost use mathlib.Core.Path.{_≡_};
 ghost use lib.ListN.{length, replicate};
 ghost use lib.Seq.{sets};
@@ -23,6 +23,7 @@ ghost use Rattle.byte.specs.Byte.{byteAt, isGood};
 ghost use Rattle.block.specs.Block.{checksum, bytesClasses, copyClasses, copyPulses, trailer, blockPulses, wrongSize, wrongLeader, measureBlock, writeBlock};
 ghost use Rattle.block.specs.Reading.{startOf, counted, isMiscounted, placeAt, valueOrZero, valuesAt, isLost, sumHolds, readAt, readBlock, Reads};
 ghost use Rattle.block.specs.Checks.{foundAt, checkOf};
+ghost use Rattle.block.specs.Search.{notShort, lastFrom};
 
 // The largest payload.
 pub const MOST_BYTES: usize = 8192;
@@ -231,32 +232,68 @@ fn holds(t: Thresholds, strip: &[u32], at: usize, value: u8) -> bool
     }
 }
 
-// Rule 1. No byte begins with a short pulse, so a place is looked at only where a run of short pulses ends.
+// How many pulses the strip has from a place on.
+fn pulses_from(strip: &[u32], at: usize) -> usize
+    ensures { λ r. ⌜ r ≡ length (now (strip .entry)) - at ⌝ }
+{
+    if strip.len() < at { 0 } else { strip.len() - at }
+}
+
+// The last of the sixteen pulses from a place on that is not short.
+fn last_not_short(t: Thresholds, strip: &[u32], at: usize) -> Found
+    requires { ⌜ at + 16 ≤ length (now strip) ⌝ }
+    ensures { λ r. ⌜ foundAt r ≡ lastFrom (notShort (classes t (now (strip .entry)))) 16 at ⌝ }
+{
+    let mut count = SYNC_SHORTS;
+    while 0 < count {
+        count = count - 1;
+        if !pulse::is_short(t, Cycles(strip[at + count])) {
+            return Found::At(at + count);
+        }
+    }
+    Found::Nothing
+}
+
+// The first pulse from a place on that is not short.
+fn first_not_short(t: Thresholds, strip: &[u32], at: usize) -> Found
+    ensures { λ r. ⌜ foundAt r ≡ firstFrom (notShort (classes t (now (strip .entry)))) (length (now (strip .entry)) - at) at ⌝ }
+{
+    let mut i = at;
+    while i < strip.len() {
+        if !pulse::is_short(t, Cycles(strip[i])) {
+            return Found::At(i);
+        }
+        i = i + 1;
+    }
+    Found::Nothing
+}
+
+// Rule 1. The sixteen pulses from `at` on are looked at from the last to the first: none of the sixteen places after a pulse that is not
+// short is a start, so the search goes on just after it. Where all sixteen are short, only the place where their run ends can be a start,
+// since no byte begins with a short pulse.
 fn find_start(t: Thresholds, strip: &[u32], from: usize) -> Found
     ensures { λ r. ⌜ foundAt r ≡ startOf (classes t (now (strip .entry))) from ⌝ }
 {
     let mut at = from;
-    let mut shorts: usize = 0;
     'search: loop {
-        if strip.len() <= at {
+        if pulses_from(strip, at) < SYNC_SHORTS {
             break 'search Found::Nothing;
         }
-        if pulse::is_short(t, Cycles(strip[at])) {
-            shorts = shorts + 1;
+        if let Found::At(last) = last_not_short(t, strip, at) {
+            at = last + 1;
         } else {
+            let Found::At(end) = first_not_short(t, strip, at + SYNC_SHORTS) else {
+                break 'search Found::Nothing;
+            };
             // one turn: a block that can be left by its label
             'look: loop {
-                if shorts < SYNC_SHORTS {
-                    break 'look;
-                }
-                if holds(t, strip, at, SYNC_BYTE) {
-                    break 'search Found::At(at);
+                if holds(t, strip, end, SYNC_BYTE) {
+                    break 'search Found::At(end);
                 }
                 break 'look;
             }
-            shorts = 0;
+            at = end + 1;
         }
-        at = at + 1;
     }
 }
 
