@@ -133,7 +133,7 @@ module _ {cs : List Class} {n from at : ℕ} (long : length cs ≡ n) (u : Searc
     found all b =
         let w = none-last (notShort cs) at 16 all in
         let short : (i : ℕ) → at ≤ i → i < end → getD cs i Noise ≡ Short =
-            λ i l h. is-short cs i (elim (decLt i (at + 16)) [ yes a ↦ w i l a | no a ↦ run-ends .least i (omega arith) h ]) in
+        λ i l h. is-short cs i (elim (decLt i (at + 16)) [ yes a ↦ w i l a | no a ↦ run-ends .least i (omega arith) h ]) in
         let far : at + 16 ≤ end = run-ends .low in
         sym (start-some (record {
           far = omega (arith, u .low);

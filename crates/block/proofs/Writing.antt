@@ -5,7 +5,7 @@ use native.Mathlib.Numerals.{add-one}
 use native.Mathlib.Omega.{arith}
 use mathlib.Core.Path.{_≡_, refl, sym, ap, _∙_}
 use mathlib.Core.Bool.{true, false}
-use mathlib.Core.List.{List, [], _++_, append-nil, map-append}
+use mathlib.Core.List.{List, [], _∷_, _++_, append-nil, map-append}
 use borrow.Author.Tests.{lt-ltb, le-ltb}
 use lib.Bits.{bitXor}
 use lib.ListN.{length, drop, getD, set, replicate, length-replicate, drop-of-length-le}
@@ -94,20 +94,19 @@ module _ (out₀ : List ℕ) (at : ℕ) (bytes : List ℕ) where
 pub copy-put : (out : List ℕ) (at copy : ℕ) (payload : List ℕ) {row one two three : List ℕ} {sum : ℕ}
     → at + copyPulses (length payload) ≤ length out → row ≡ countdown copy → sum ≡ checksum payload
     → one ≡ sets out at (pulses (bytesClasses row)) → two ≡ sets one (at + 180) (pulses (bytesClasses payload))
-    → three ≡ putAt two (at + 180 + 20 * length payload) (bytePulses sum)
+    → three ≡ sets two (at + 180 + 20 * length payload) (pulses (bytesClasses (sum ∷ [])))
     → three ≡ sets out at (pulses (copyClasses copy payload))
 unfolding copyClasses copyBytes bytesClasses
 copy-put out at copy payload {row} {one} {two} {three} {sum} room r s e f g =
     let n = length payload in
     let xs = bytesClasses (countdown copy) in
     let ys = bytesClasses payload in
-    let zs = byteClasses (checksum payload) in
-    let w : copyClasses copy payload ≡ xs ++ (ys ++ zs) = rw (bytes-append, bytes-append, append-nil) in
+    let zs = bytesClasses (checksum payload ∷ []) in
+    let w : copyClasses copy payload ≡ xs ++ (ys ++ zs) = rw (bytes-append, bytes-append) in
     let u₀ = put-begun out at at (pulses (copyClasses copy payload)) (pulses (xs ++ (ys ++ zs))) refl (ap pulses (sym w)) in
     let u₁ = put-pulses xs (ys ++ zs) u₀ (rw r at e) (length-bytes (countdown copy) ∙ ap (λ k. 20 * k) (length-countdown copy)) refl in
     let u₂ = put-pulses ys zs u₁ f (length-bytes payload) refl in
-    let long = u₂ .long in
-    let u₃ = put-next u₂ (pulses zs) [] (sym (append-nil (pulses zs))) (put-stored two (at + 180 + 20 * n) (checksum payload) (omega arith) (rw s at g)) refl in
+    let u₃ = put-next u₂ (pulses zs) [] (sym (append-nil (pulses zs))) (rw s at g) refl in
     put-done u₃ refl
 
 -- ---- The block

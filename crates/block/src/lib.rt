@@ -189,7 +189,7 @@ fn put_copy(out: &mut [u32], at: usize, copy: usize, payload: &[u8], sum: u8)
     let last = values + byte::BYTE_PULSES * payload.len();
     put_bytes(out, at, &countdown);
     put_bytes(out, values, payload);
-    byte::put_byte(out, last, sum);
+    put_bytes(out, last, &[sum]);
 }
 
 fn put_trailer(out: &mut [u32], at: usize)
@@ -236,7 +236,11 @@ fn holds(t: Thresholds, strip: &[u32], at: usize, value: u8) -> bool
 fn pulses_from(strip: &[u32], at: usize) -> usize
     ensures { λ r. ⌜ r ≡ length (now (strip .entry)) - at ⌝ }
 {
-    if strip.len() < at { 0 } else { strip.len() - at }
+    if strip.len() < at {
+        0
+    } else {
+        strip.len() - at
+    }
 }
 
 // The last of the sixteen pulses from a place on that is not short.

@@ -1,5 +1,7 @@
 -- The pulses of a byte, stored one pair after the other.
-use Prim.Native.Nat.{ℕ, zero, suc, _+_, _-_, _*_, _/_, _%_, _≤_, _<_}
+use Prim.Native.Nat.{ℕ, zero, suc, _+_, _-_, _*_, _/_, _%_, _^_, _≤_, _<_}
+use native.Mathlib.Nat.{div-one, div-div-eq-div-mul, pow-suc}
+use native.Mathlib.Numerals.{add-one}
 use native.Mathlib.Omega.{arith}
 use mathlib.Core.Path.{_≡_, refl, sym, ap, _∙_}
 use mathlib.Core.Bool.{true, false}
@@ -30,28 +32,37 @@ coded-one (suc d) h = refl
 
 -- ---- The eight bits: with i of them put, the rest put after them gives the whole
 
+-- the bits of b from bit i on are those of this number
+abbrev above : (b i : ℕ) → ℕ
+above b i = b / 2 ^ i
+
+above-next : (b i : ℕ) → above b i / 2 ≡ above b (i + 1)
+above-next b i = div-div-eq-div-mul b (2 ^ i) 2 ∙ ap (λ k. b / k) (sym (pow-suc 2 i)) ∙ ap (λ k. b / 2 ^ k) (sym (add-one i))
+
 module _ (out₀ : List ℕ) (at b : ℕ) where
-  abbrev pub BitsPut : List ℕ → ℕ → ℕ → Type 0
-  BitsPut out rest i = Putting out₀ at (pulses (coded (bits 8 b))) out (at + 2 * i) (pulses (coded (bits (8 - i) rest)))
+  abbrev pub BitsPut : List ℕ → ℕ → Type 0
+  BitsPut out i = Putting out₀ at (pulses (coded (bits 8 b))) out (at + 2 * i) (pulses (coded (bits (8 - i) (above b i))))
 
-  pub begun : BitsPut out₀ b 0
-  begun = put-begun out₀ at (at + 2 * 0) _ _ (omega arith) refl
+  pub begun : BitsPut out₀ 0
+  begun = put-begun out₀ at (at + 2 * 0) _ _ (omega arith) (ap (λ v. pulses (coded (bits 8 v))) (div-one b))
 
-  module _ {out : List ℕ} (rest : ℕ) {i : ℕ} (u : BitsPut out rest i) where
-    pub next : {out′ : List ℕ} → i < 8 → out′ ≡ sets out (at + 2 * i) (pulses (coded (rest % 2 ∷ []))) → BitsPut out′ (rest / 2) (i + 1)
+  module _ {out : List ℕ} {i : ℕ} (u : BitsPut out i) where
+    pub next : {out′ : List ℕ} → i < 8 → out′ ≡ sets out (at + 2 * i) (pulses (coded (above b i % 2 ∷ []))) → BitsPut out′ (i + 1)
     unfolding bits
     next more e =
         let s : 8 - i ≡ suc (8 - (i + 1)) = omega arith in
-        let now = coded (rest % 2 ∷ []) in
-        let left = coded (bits (8 - (i + 1)) (rest / 2)) in
+        let now = coded (above b i % 2 ∷ []) in
+        let left = coded (bits (8 - (i + 1)) (above b (i + 1))) in
         put-next u (pulses now) (pulses left)
-        (ap (λ k. pulses (coded (bits k rest))) s ∙ ap pulses (coded-append (rest % 2 ∷ []) (bits (8 - (i + 1)) (rest / 2))) ∙ map-append writtenAs now left)
+        (ap (λ k. pulses (coded (bits k (above b i)))) s
+        ∙ ap (λ v. pulses (coded (above b i % 2 ∷ bits (8 - (i + 1)) v))) (above-next b i)
+        ∙ ap pulses (coded-append (above b i % 2 ∷ []) (bits (8 - (i + 1)) (above b (i + 1)))) ∙ map-append writtenAs now left)
         e
-        (rw (length-map now writtenAs, length-coded (rest % 2 ∷ [])) (omega arith))
+        (rw (length-map now writtenAs, length-coded (above b i % 2 ∷ [])) (omega arith))
 
     pub done : 8 ≤ i → out ≡ sets out₀ at (pulses (coded (bits 8 b)))
     unfolding bits coded
-    done last = put-done u (ap (λ k. pulses (coded (bits k rest))) (let z : 8 - i ≡ 0 = omega arith in z))
+    done last = put-done u (ap (λ k. pulses (coded (bits k (above b i)))) (let z : 8 - i ≡ 0 = omega arith in z))
 
 -- ---- The whole byte
 

@@ -211,11 +211,9 @@ fn put_bits(out: &mut [u32], at: usize, b: u8)
     requires { ⌜ at + 16 ≤ length (now out) ⌝ }
     ensures { λ _. ⌜ now (out .exit) ≡ sets (now (out .entry)) at (pulses (coded (bits 8 b))) ⌝ }
 {
-    let mut rest = b;
     let mut i: usize = 0;
     while i < BITS {
-        put_bit(out, at + PAIR_PULSES * i, rest % 2);
-        rest = rest / 2;
+        put_bit(out, at + PAIR_PULSES * i, (b >> i) % 2);
         i = i + 1;
     }
 }

@@ -154,7 +154,10 @@ pub extern "C" fn tape_shown_name(header: &[u8]) -> TapeSpan
     ensures { λ r. ⌜ r ≡ shownSpan (now (header .entry)) ⌝ }
 {
     let HeaderAnswer::Accepted(_) = header::unpack_header(header) else {
-        return TapeSpan { offset: 0, length: 0 };
+        return TapeSpan {
+            offset: 0,
+            length: 0,
+        };
     };
     let name = header::shown_name(header);
     TapeSpan {

@@ -8,7 +8,6 @@ use Rattle.block.specs.Checks.{foundAt}
 use Rattle.block.proofs.Searching.{some-last, Searching, begun, ended, broken, run-lasts, run-ends, other-byte, found}
 use mathlib.Core.Path.{sym, ap, _∙_}
 use denote.Ref.{now}
-
 use Rattle.block.proofs.find_start.Statement.{statement}
 use Rattle.block.proofs.find_start.Tie as tie
 use Rattle.block.proofs.find_start.Reads as reads

@@ -37,8 +37,11 @@ put-bytes-requires c κs =
 put-bytes-requires-2 : tie.Need-put-bytes-requires-2
 put-bytes-requires-2 c κs = search needs
 
-put-byte-requires : tie.Need-put-byte-requires
-put-byte-requires c κs = search needs
+slice-aggregate-put-bytes-2 : tie.Need-slice-aggregate-put-bytes-2
+slice-aggregate-put-bytes-2 c = search needs
+
+put-bytes-requires-3 : tie.Need-put-bytes-requires-3
+put-bytes-requires-3 c κs = search needs
 
 same-length : tie.Need-same-length
 same-length c = search needs
@@ -46,12 +49,12 @@ same-length c = search needs
 returns : tie.Need-returns
 returns c =
     let three = c .before .before in
-    let two = three .before .before .before .before in
+    let two = three .before .before .before .before .before in
     let one = two .before .before .before .before in
     let s = one .before .before .before .before .before .before in
     let a = s .args in
     copy-put (now (a .out)) (a .at) (a .copy) (now (a .payload)) (s .pre .0 .1) (row-countdown (a .copy) (s .pre .0 .0)) (s .pre .1)
-    (one .put-bytes .ensures) (two .put-bytes2 .ensures) (three .put-byte .ensures .1)
+    (one .put-bytes .ensures) (two .put-bytes2 .ensures) (three .put-bytes3 .ensures)
 
 pub put-copy-spec : {M : Type 1} → statement M
 put-copy-spec =
@@ -66,6 +69,7 @@ put-copy-spec =
     slice-aggregate-put-bytes
     put-bytes-requires
     put-bytes-requires-2
-    put-byte-requires
+    slice-aggregate-put-bytes-2
+    put-bytes-requires-3
     same-length
     returns)
