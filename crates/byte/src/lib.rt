@@ -150,7 +150,10 @@ impl Decoder {
     {
         let value = (self.bits / FIRST % VALUES) as u8;
         let parity = self.bits / PARITY;
-        if self.sound & is_odd(u8::count_ones(value) + parity) {
+        if !self.sound {
+            return ByteRead::Bad;
+        }
+        if is_odd(u8::count_ones(value) + parity) {
             ByteRead::Good(value)
         } else {
             ByteRead::Bad
