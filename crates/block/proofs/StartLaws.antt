@@ -55,7 +55,7 @@ module _ {cs : List Class} {from p : ℕ} where
       let long : length (part cs (p - 16) 16) ≡ 16 = simp (length-take, length-drop) (omega arith) in
       record { far = far; shorts = all-short (part cs (p - 16) 16) (h′ .1) ∙ rw long; first = first }
 
-  pub start-fails : (Start cs from p → ⊥) → isStart cs from p ≡ false
+  start-fails : (Start cs from p → ⊥) → isStart cs from p ≡ false
   start-fails h = not-holds (isStart cs from p) (λ e. h (passes-start e))
 
   -- the sixteen pulses before a start

@@ -1,4 +1,4 @@
--- What the search for a start looks for between starts. No promise to a caller cites this.
+-- What the private functions of the search for a start come to. No promise to a caller cites this.
 use Prim.Native.Nat.{ℕ, zero, suc, _+_}
 use mathlib.Core.Bool.{Bool, cond, not}
 use mathlib.Core.List.{List}
@@ -8,7 +8,7 @@ use Rattle.pulse.specs.declared.Class.{Class}
 use Rattle.pulse.specs.declared.Class.the-variants.{Short, Noise}
 use Rattle.pulse.specs.Pulse.{same}
 
--- a pulse that is not short stands at place i
+-- the pulse at a place is not short
 abbrev pub notShort : (cs : List Class) (i : ℕ) → Bool
 notShort cs i = not (same (getD cs i Noise) Short)
 

@@ -272,9 +272,9 @@ fn first_not_short(t: Thresholds, strip: &[u32], at: usize) -> Found
     Found::Nothing
 }
 
-// Rule 1. The sixteen pulses from `at` on are looked at from the last to the first: none of the sixteen places after a pulse that is not
-// short is a start, so the search goes on just after it. Where all sixteen are short, only the place where their run ends can be a start,
-// since no byte begins with a short pulse.
+// Rule 1. The search looks at the sixteen pulses from `at` on, the last one first. A pulse that is not short rules out the sixteen places
+// after it, so the search goes on just after it. Where all sixteen are short, only the end of their run can be a start: no byte begins with
+// a short pulse.
 fn find_start(t: Thresholds, strip: &[u32], from: usize) -> Found
     ensures { λ r. ⌜ foundAt r ≡ startOf (classes t (now (strip .entry))) from ⌝ }
 {

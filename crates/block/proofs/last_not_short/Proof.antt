@@ -1,17 +1,15 @@
+-- `block::last_not_short` meets its contract. The invariant: the first `count` of the sixteen pulses have the last one that is not short.
+use Prim.Native.Nat.{_+_, _-_, _≤_}
 use native.Mathlib.Omega.{arith}
-use Rattle.block.proofs.Searching.{last-passed, last-here, last-over, not-short-at}
-use denote.Ref.{now}
+use mathlib.Core.Path.{_≡_, sym, ap, _∙_}
 use mathlib.Core.Bool.{not}
 use borrow.Author.Needs.{needs}
-use Prim.Native.Nat.{_+_, _-_, _≤_}
-use mathlib.Core.Path.{_≡_, sym, ap, _∙_}
+use denote.Ref.{now}
 use Rattle.pulse.specs.Pulse.{classes}
 use Rattle.block.specs.Search.{notShort, lastFrom}
+use Rattle.block.proofs.Searching.{last-passed, last-here, last-over, not-short-at}
 use Rattle.block.proofs.last_not_short.Statement.{statement}
 use Rattle.block.proofs.last_not_short.Tie as tie
-use Rattle.block.proofs.last_not_short.Reads as reads
-use Rattle.block.proofs.last_not_short.Lts as lts
-use Rattle.pulse.proofs.is_short.Reads as is-short-reads
 
 abbrev Inv-loop : tie.InvT-loop
 Inv-loop t strip at count₀ count = (count ≤ 16) × (lastFrom (notShort (classes t strip)) count at ≡ lastFrom (notShort (classes t strip)) 16 at)
@@ -19,35 +17,27 @@ Inv-loop t strip at count₀ count = (count ≤ 16) × (lastFrom (notShort (clas
 abbrev μ-loop : tie.MeasureT-loop
 μ-loop t strip at count₀ count = count
 
--- src/lib.rt:248:5
 loop-holds : tie.Need-loop-holds Inv-loop μ-loop
 loop-holds c = search needs
 
--- src/lib.rt:249:17
 sub-count : tie.Need-sub-count Inv-loop μ-loop
 sub-count c = search needs
 
--- src/lib.rt:250:45
 add-t6 : tie.Need-add-t6 Inv-loop μ-loop
 add-t6 c = search needs
 
--- src/lib.rt:250:39
 mul-t7 : tie.Need-mul-t7 Inv-loop μ-loop
 mul-t7 c = search needs
 
--- src/lib.rt:250:39
 shared-slice-read-t9 : tie.Need-shared-slice-read-t9 Inv-loop μ-loop
 shared-slice-read-t9 c = search needs
 
--- src/lib.rt:250:13
 is-short-requires : tie.Need-is-short-requires Inv-loop μ-loop
 is-short-requires c κs = search needs
 
--- src/lib.rt:251:30
 add-t12 : tie.Need-add-t12 Inv-loop μ-loop
 add-t12 c = search needs
 
--- src/lib.rt:251:13
 returns : tie.Need-returns Inv-loop μ-loop
 returns c =
     let h = c .before .before .before .before in
@@ -55,11 +45,9 @@ returns c =
     let e = not-short-at (a .t) (now (a .strip)) (a .at + (h .loop .count - 1)) (omega arith) ∙ ap not (sym (c .before .is-short .ensures)) ∙ c .if1 .taken in
     sym (last-here (notShort (classes (a .t) (now (a .strip)))) (a .at) (h .loop .count) (omega arith) e) ∙ h .loop .inv .1
 
--- src/lib.rt:248:5
 loop-less : tie.Need-loop-less Inv-loop μ-loop
 loop-less c = search needs
 
--- src/lib.rt:248:5
 loop-again : tie.Need-loop-again Inv-loop μ-loop
 loop-again c =
     let h = c .before .before .before .before in
@@ -67,13 +55,11 @@ loop-again c =
     let e = not-short-at (a .t) (now (a .strip)) (a .at + (h .loop .count - 1)) (omega arith) ∙ ap not (sym (c .before .is-short .ensures)) ∙ c .if1 .left in
     (omega arith, last-passed (notShort (classes (a .t) (now (a .strip)))) (a .at) (h .loop .count) (omega arith) e ∙ h .loop .inv .1)
 
--- src/lib.rt:243:1
 returns-2 : tie.Need-returns-2 Inv-loop μ-loop
 returns-2 c =
     let h = c .before in
     let a = h .before .before .args in
-    let z : 0 ≡ h .loop .count = omega arith in
-    sym (last-over (notShort (classes (a .t) (now (a .strip)))) (a .at)) ∙ ap (λ n. lastFrom (notShort (classes (a .t) (now (a .strip)))) n (a .at)) z ∙ h .loop .inv .1
+    sym (last-over (notShort (classes (a .t) (now (a .strip)))) (a .at) (h .loop .count) (omega arith)) ∙ h .loop .inv .1
 
 pub last-not-short-spec : {M : Type 1} → statement M
 last-not-short-spec =
