@@ -9,7 +9,7 @@ use mathlib.Core.Option.{Option, none, some}
 use borrow.Author.Tests.{lt-ltb, le-ltb}
 use lib.ListN.{length, length-map}
 use lib.Seq.{sets}
-use Rattle.lists.specs.Places.{firstFrom}
+use Rattle.lists.specs.Places.{firstFrom, tabulate}
 use Rattle.lists.proofs.PlaceLaws.{length-tabulate, some-first}
 use Rattle.lists.proofs.BufferLaws.{put-room}
 use Rattle.refusal.specs.declared.Reason.{Reason}
@@ -27,7 +27,8 @@ use Rattle.block.specs.declared.Found.{Found}
 use Rattle.block.specs.declared.Found.the-variants.{At, Nothing}
 use Rattle.block.specs.Block.{wrongSize}
 use Rattle.block.specs.Reading.{isStart, startOf, copyTwo, endOf, isMiscounted, isLost, valueAt, valuesAt, sumHolds, BlockRead, extentOf, payloadOf, blockAt, readCopies, readAt, readFound, readFrom, readBlock, blockAnswer, Reads}
-use Rattle.block.specs.Checks.{foundAt, checkOf}
+use Rattle.block.specs.Checks.{foundAt, checkOf, Checked, pickedAt}
+use Rattle.block.proofs.Checking.{picked-values}
 
 pub met-refused : (o : Outcome BlockRead) (out : List ℕ) (reason : Reason) {place : ℕ} {r : BlockAnswer} → o ≡ refuse reason place → r ≡ Refused (refusalAt reason place)
     → Reads o out r out
@@ -70,28 +71,29 @@ module _ (t : Thresholds) (strip : List ℕ) (n p : ℕ) (out : List ℕ) where
     unfolding readAt readCopies
     miscounted g = met-refused (readAt cs p n) out WrongCountdown (rw (length-map strip (classOf t), le-ltb (length strip) (endOf p n) long, ← e, g))
 
-    module _ (g : f ≡ Nothing) {c : Check} (h : c ≡ checkOf (firstFrom (isLost cs p q) (n + 1) 0) (sumHolds cs p q n)) where
+    module _ (g : f ≡ Nothing) {c : Check} {row : List ℕ} (h : Checked cs p q n c row) where
       pub lost-byte : {i : ℕ} {r : BlockAnswer} → c ≡ LostAt i → r ≡ Refused (refusalAt LostByte i) → Reads (readAt cs p n) out r out
       unfolding readAt readCopies
       lost-byte k = met-refused (readAt cs p n) out LostByte
-          (rw (length-map strip (classOf t), le-ltb (length strip) (endOf p n) long, ← e, g, check-lost (firstFrom (isLost cs p q) (n + 1) 0) (sumHolds cs p q n) (sym h ∙ k)))
+          (rw (length-map strip (classOf t), le-ltb (length strip) (endOf p n) long, ← e, g, check-lost (firstFrom (isLost cs p q) (n + 1) 0) (sumHolds cs p q n) (sym (h .says) ∙ k)))
 
       pub wrong-sum : {r : BlockAnswer} → c ≡ WrongSum → r ≡ Refused (refusalAt WrongChecksum n) → Reads (readAt cs p n) out r out
       unfolding readAt readCopies
       wrong-sum k =
-          let w = check-wrong (firstFrom (isLost cs p q) (n + 1) 0) (sumHolds cs p q n) (sym h ∙ k) in
+          let w = check-wrong (firstFrom (isLost cs p q) (n + 1) 0) (sumHolds cs p q n) (sym (h .says) ∙ k) in
           met-refused (readAt cs p n) out WrongChecksum (rw (length-map strip (classOf t), le-ltb (length strip) (endOf p n) long, ← e, g, w .0, w .1))
 
-      pub sound : {out′ : List ℕ} → n ≤ length out → c ≡ Sound → out′ ≡ sets out 0 (valuesAt cs p q n)
+      pub sound : {out′ : List ℕ} → n ≤ length out → c ≡ Sound → out′ ≡ sets out 0 (tabulate (pickedAt t strip p q row) n 0)
           → Reads (readAt cs p n) out (Accepted (record { n = n; start = p; end = endOf p n })) out′
       unfolding readAt readCopies
       sound room k s =
-          let w = check-sound (firstFrom (isLost cs p q) (n + 1) 0) (sumHolds cs p q n) (sym h ∙ k) in
+          let w = check-sound (firstFrom (isLost cs p q) (n + 1) 0) (sumHolds cs p q n) (sym (h .says) ∙ k) in
           let l : 0 + length (valuesAt cs p q n) ≡ n = zero-add _ ∙ length-tabulate (valueAt cs p q) n 0 in
           let a : readAt cs p n ≡ accepted (blockAt p n (valuesAt cs p q n)) =
           rw (length-map strip (classOf t), le-ltb (length strip) (endOf p n) long, ← e, g, w .0, w .1)
           in
-          (rw a, rw a (s ∙ put-room out 0 (valuesAt cs p q n) (rw l room)))
+          let v = picked-values t strip p q n row (w .0) (h .flags (w .0)) in
+          (rw a, rw a (s ∙ ap (sets out 0) v ∙ put-room out 0 (valuesAt cs p q n) (rw l room)))
 
 -- ---- From `from` on
 

@@ -1,71 +1,173 @@
--- Rules 4 and 5, place after place: what the loop over the values knows.
-use Prim.Native.Nat.{ℕ, _+_, _≤_, _<_}
+-- Rules 4 and 5, place after place: what the loop over the values knows, and that the flags it leaves tell the values.
+use Prim.Native.Nat.{ℕ, zero, suc, _+_, _*_, _≤_, _<_}
+use native.Mathlib.Nat.{zero-add}
+use native.Mathlib.Numerals.{add-one}
+use native.Mathlib.Decide.{ℕ-discrete}
 use native.Mathlib.Omega.{arith}
-use mathlib.Core.Path.{_≡_, sym, ap, ap₂, _∙_}
-use mathlib.Core.Bool.{Bool, true, false}
-use mathlib.Core.List.{List}
+use mathlib.Core.Path.{_≡_, refl, sym, ap, ap₂, _∙_}
+use mathlib.Core.Bool.{Bool, true, false, cond}
+use mathlib.Core.List.{List, [], _∷_, _++_}
 use mathlib.Core.Option.{none}
+use borrow.Author.Count.{below-more}
 use borrow.Author.Tests.{eq-eqb, ne-eqb}
-use lib.Bits.{bitXor}
-use Rattle.lists.specs.Places.{firstFrom}
+use lib.Bits.{bitXor, and-le-l, and-le-r, xor-add-and, xor-self}
+use lib.Dec.{eqb}
+use lib.ListN.{length}
+use Rattle.lists.specs.Places.{firstFrom, tabulate}
+use Rattle.lists.specs.Flags.{flagAt, raised}
+use Rattle.lists.proofs.PlaceLaws.{none-first, tabulate-snoc}
 use Rattle.lists.proofs.LoopLaws.{firstLeft, first-begun, first-passed, first-here, first-over, tableLeft, table-begun, table-next, table-over}
+use Rattle.lists.proofs.FlagLaws.{length-raised, raised-same, raised-other}
+use Rattle.pulse.specs.declared.Thresholds.{Thresholds}
 use Rattle.pulse.specs.declared.Class.{Class}
+use Rattle.pulse.specs.Pulse.{classes}
+use Rattle.byte.specs.declared.ByteRead.{ByteRead}
 use Rattle.byte.specs.declared.ByteRead.the-variants.{Good, Bad}
-use Rattle.byte.specs.Byte.{isBad}
+use Rattle.byte.specs.Byte.{byteAt, isBad, bitsAt}
+use Rattle.byte.proofs.ValueLaws.{good-bits}
+use Rattle.block.specs.declared.Check.{Check}
 use Rattle.block.specs.declared.Check.the-variants.{Sound, LostAt, WrongSum}
 use Rattle.block.specs.Block.{xorFrom, checksum}
-use Rattle.block.specs.Reading.{placeAt, isLost, valueOrZero, valueAt, valuesAt, sumHolds}
-use Rattle.block.specs.Checks.{checkOf}
+use Rattle.block.specs.Reading.{repaired, placeAt, isLost, valueOrZero, valueAt, valuesAt, sumHolds}
+use Rattle.block.specs.Checks.{checkOf, isTwos, flagged, Down, Flags, Checked, pickedAt}
 
--- no place before i is lost, and the sum, XORed with the values left, is the checksum
-pub record Checking (cs : List Class) (one two n sum i : ℕ) : Type 0 where
-  pub few : i ≤ n
+-- ---- The sum: with the checksum XORed too it is 0 exactly where the checksum holds
+
+xor-snoc : (x : ℕ) (bytes : List ℕ) (b : ℕ) → xorFrom x (bytes ++ (b ∷ [])) ≡ bitXor (xorFrom x bytes) b
+unfolding xorFrom
+xor-snoc x [] b = refl
+xor-snoc x (c ∷ bytes) b = xor-snoc (bitXor x c) bytes b
+
+xor-zero : (a b : ℕ) → bitXor a b ≡ 0 → eqb a b ≡ true
+xor-zero a b e = eq-eqb a b (omega (arith, xor-add-and a b, and-le-l a b, and-le-r a b))
+
+xor-other : (a b : ℕ) → (bitXor a b ≡ 0 → ⊥) → eqb a b ≡ false
+xor-other a b h = ne-eqb a b (λ e. h (rw e (xor-self b)))
+
+-- ---- The flags
+
+-- one place more
+module _ (t : Bool) (row : List ℕ) (i : ℕ) where
+  flag-same : i < 8 * length row → flagAt row i ≡ false → flagAt (cond t (raised row i) row) i ≡ t
+  flag-same h e = go t
+    where
+      go : (t : Bool) → flagAt (cond t (raised row i) row) i ≡ t
+      go true = raised-same row i (omega arith)
+      go false = e
+
+  flag-other : (j : ℕ) → (i ≡ j → ⊥) → flagAt (cond t (raised row i) row) j ≡ flagAt row j
+  flag-other j h = go t
+    where
+      go : (t : Bool) → flagAt (cond t (raised row i) row) j ≡ flagAt row j
+      go true = raised-other row i j h
+      go false = refl
+
+  length-flag : length (cond t (raised row i) row) ≡ length row
+  length-flag = go t
+    where
+      go : (t : Bool) → length (cond t (raised row i) row) ≡ length row
+      go true = length-raised row i
+      go false = refl
+
+-- ---- Places 0 to n
+
+-- no place before i is lost, the sum, XORed with the values left, is that of all, and the places before i are flagged
+pub record Checking (cs : List Class) (one two n : ℕ) (row₀ row : List ℕ) (sum i : ℕ) : Type 0 where
+  pub few : i ≤ n + 1
   pub left : firstLeft (isLost cs one two) (n + 1) i ≡ firstFrom (isLost cs one two) (n + 1) 0
-  pub summed : xorFrom sum (tableLeft (valueAt cs one two) n i) ≡ checksum (valuesAt cs one two n)
+  pub summed : xorFrom sum (tableLeft (valueAt cs one two) (n + 1) i) ≡ checksum (valuesAt cs one two (n + 1))
+  pub long : length row ≡ length row₀
+  pub flags : Flags cs one i row
+  pub later : (j : ℕ) → i ≤ j → flagAt row j ≡ false
 
-pub begun : (cs : List Class) (one two n : ℕ) → Checking cs one two n 0 0
-begun cs one two n = record {
+pub begun : (cs : List Class) (one two n : ℕ) (row : List ℕ) → Down row → Checking cs one two n row row 0 0
+begun cs one two n row down = record {
   few = omega arith;
   left = first-begun (isLost cs one two) (n + 1);
-  summed = ap (xorFrom 0) (table-begun (valueAt cs one two) n);
+  summed = ap (xorFrom 0) (table-begun (valueAt cs one two) (n + 1));
+  long = refl;
+  flags = λ j h. absurd (omega arith);
+  later = λ j h. down j;
 }
 
-module _ {cs : List Class} {one two n sum i : ℕ} (u : Checking cs one two n sum i) where
-  pub lost : (holds : Bool) → placeAt cs one two i ≡ Bad → LostAt i ≡ checkOf (firstFrom (isLost cs one two) (n + 1) 0) holds
-  lost holds e =
-      ap (λ o. checkOf o holds)
-      (sym (first-here (isLost cs one two) (n + 1) i (omega arith) (ap isBad e)) ∙ u .left)
+module _ {cs : List Class} {one two n : ℕ} {row₀ row : List ℕ} {sum i : ℕ} (u : Checking cs one two n row₀ row sum i) where
+  pub lost : {row′ : List ℕ} → i ≤ n → placeAt cs one two i ≡ Bad → Checked cs one two n (LostAt i) row′
+  lost h e =
+      let f = sym (u .left) ∙ first-here (isLost cs one two) (n + 1) i (omega arith) (ap isBad e) in
+      record {
+        says = ap (λ o. checkOf o (sumHolds cs one two n)) (sym f);
+        flags = λ g. absurd (let z : _≡_ {A = ℕ} 0 1 = cc in omega arith);
+      }
 
-  passed : {v : ℕ} → placeAt cs one two i ≡ Good v → firstLeft (isLost cs one two) (n + 1) (i + 1) ≡ firstFrom (isLost cs one two) (n + 1) 0
-  passed e = first-passed (isLost cs one two) (n + 1) i (omega arith) (ap isBad e) ∙ u .left
-
-  pub next : {v : ℕ} → i < n → placeAt cs one two i ≡ Good v → Checking cs one two n (bitXor sum v) (i + 1)
+  pub next : {row′ : List ℕ} {v : ℕ} → i ≤ n → n < 8 * length row₀ → placeAt cs one two i ≡ Good v → row′ ≡ flagged cs one i row
+      → Checking cs one two n row₀ row′ (bitXor sum v) (i + 1)
   unfolding xorFrom
-  next h e = record {
-    few = omega arith;
-    left = passed e;
-    summed =
-        ap (λ v. xorFrom (bitXor sum v) (tableLeft (valueAt cs one two) n (i + 1))) (sym (ap valueOrZero e))
-        ∙ ap (xorFrom sum) (sym (table-next (valueAt cs one two) n i h))
-        ∙ u .summed;
-  }
+  next h room e f =
+      let long = u .long in
+      let t = isTwos cs one i in
+      record {
+        few = omega arith;
+        left = first-passed (isLost cs one two) (n + 1) i (omega arith) (ap isBad e) ∙ u .left;
+        summed =
+            ap (λ v. xorFrom (bitXor sum v) (tableLeft (valueAt cs one two) (n + 1) (i + 1))) (sym (ap valueOrZero e))
+            ∙ ap (xorFrom sum) (sym (table-next (valueAt cs one two) (n + 1) i (omega arith)))
+            ∙ u .summed;
+        long = ap length f ∙ length-flag t row i ∙ long;
+        flags =
+            rw f
+            (below-more _ _ (λ j l. flag-other t row i j (λ q. omega arith) ∙ u .flags j l) (flag-same t row i (omega arith) (u .later i (omega arith))));
+        later = λ j l. rw f (flag-other t row i j (λ q. omega arith) ∙ u .later j (omega arith));
+      }
 
-  -- after the last payload byte, the checksum's place decides
-  module _ {v : ℕ} (last : n ≤ i) (e : placeAt cs one two n ≡ Good v) where
-    ends : i ≡ n
-    ends = omega arith
-
+  -- after the checksum's place
+  module _ (last : n < i) where
     none-lost : none ≡ firstFrom (isLost cs one two) (n + 1) 0
-    none-lost =
-        sym (first-over (isLost cs one two) (n + 1) (i + 1) (omega arith))
-        ∙ passed (ap (placeAt cs one two) ends ∙ e)
+    none-lost = sym (first-over (isLost cs one two) (n + 1) i (omega arith)) ∙ u .left
 
-    sum-is : checksum (valuesAt cs one two n) ≡ sum
+    abbrev expected : ℕ
+    expected = checksum (valuesAt cs one two n)
+
+    sum-is : sum ≡ bitXor expected (valueAt cs one two n)
     unfolding xorFrom
-    sum-is = sym (u .summed) ∙ ap (xorFrom sum) (table-over (valueAt cs one two) n i last)
+    sum-is =
+        sym (ap (xorFrom sum) (table-over (valueAt cs one two) (n + 1) i (omega arith)))
+        ∙ u .summed
+        ∙ ap checksum (ap (λ k. tabulate (valueAt cs one two) k 0) (add-one n) ∙ tabulate-snoc (valueAt cs one two) n 0)
+        ∙ xor-snoc 0 (valuesAt cs one two n) (valueAt cs one two (0 + n))
+        ∙ ap (λ k. bitXor expected (valueAt cs one two k)) (zero-add n)
 
-    pub sound : sum ≡ v → Sound ≡ checkOf (firstFrom (isLost cs one two) (n + 1) 0) (sumHolds cs one two n)
-    sound q = let t : sumHolds cs one two n ≡ true = rw (sum-is, e) (eq-eqb sum v q) in ap₂ checkOf none-lost (sym t)
+    ended : {check : Check} (holds : Bool) → check ≡ checkOf none holds → sumHolds cs one two n ≡ holds → Checked cs one two n check row
+    ended holds e q = record { says = e ∙ ap₂ checkOf none-lost (sym q); flags = λ g j l. u .flags j (omega arith) }
 
-    pub wrong : (sum ≡ v → ⊥) → WrongSum ≡ checkOf (firstFrom (isLost cs one two) (n + 1) 0) (sumHolds cs one two n)
-    wrong q = let t : sumHolds cs one two n ≡ false = rw (sum-is, e) (ne-eqb sum v q) in ap₂ checkOf none-lost (sym t)
+    pub sound : sum ≡ 0 → Checked cs one two n Sound row
+    sound q = ended true refl (xor-zero expected (valueAt cs one two n) (sym sum-is ∙ q))
+
+    pub wrong : (sum ≡ 0 → ⊥) → Checked cs one two n WrongSum row
+    wrong q = ended false refl (xor-other expected (valueAt cs one two n) (λ e. q (sum-is ∙ e)))
+
+-- ---- The values
+
+tabulate-same : (f g : ℕ → ℕ) (count at : ℕ) → ((i : ℕ) → at ≤ i → i < at + count → f i ≡ g i) → tabulate f count at ≡ tabulate g count at
+unfolding tabulate
+tabulate-same f g zero at h = refl
+tabulate-same f g (suc count) at h =
+    ap₂ (λ x (xs : List ℕ). x ∷ xs) (h at (omega arith) (omega arith)) (tabulate-same f g count (suc at) (λ i a b. h i (omega arith) (omega arith)))
+
+module _ (t : Thresholds) (strip : List ℕ) (one two n : ℕ) where
+  abbrev cs : List Class
+  cs = classes t strip
+
+  -- the value of place i, from two bytes of which one is good
+  picked : (at : ℕ) (a b : ByteRead) → byteAt cs (one + at) ≡ a → byteAt cs (two + at) ≡ b → isBad (repaired a b) ≡ false
+      → bitsAt t strip (cond (isBad a) two one + at) ≡ valueOrZero (repaired a b)
+  picked at (Good v) b p q h = good-bits t strip (one + at) p
+  picked at Bad (Good v) p q h = good-bits t strip (two + at) q
+  picked at Bad Bad p q h = absurd (let z : _≡_ {A = ℕ} 0 1 = cc in omega arith)
+
+  -- where no place is lost and the places are flagged, what is picked are the values
+  pub picked-values : (row : List ℕ) → firstFrom (isLost cs one two) (n + 1) 0 ≡ none → Flags cs one n row
+      → tabulate (pickedAt t strip one two row) n 0 ≡ valuesAt cs one two n
+  unfolding placeAt
+  picked-values row found flags =
+      tabulate-same (pickedAt t strip one two row) (valueAt cs one two) n 0
+      (λ i a b. rw (flags i (omega arith)) (picked (20 * (9 + i)) _ _ refl refl (none-first (isLost cs one two) (n + 1) 0 found i (omega arith) (omega arith))))

@@ -1,11 +1,19 @@
--- What the reader's own enums stand for. No promise to a caller cites this.
-use Prim.Native.Nat.{ℕ}
-use mathlib.Core.Bool.{Bool, true, false}
+-- What the reader's own enums and its row of flags stand for. No promise to a caller cites this.
+use Prim.Native.Nat.{ℕ, _+_, _*_, _<_}
+use mathlib.Core.Path.{_≡_}
+use mathlib.Core.Bool.{Bool, true, false, cond}
+use mathlib.Core.List.{List}
 use mathlib.Core.Option.{Option, none, some}
+use Rattle.lists.specs.Places.{firstFrom}
+use Rattle.lists.specs.Flags.{flagAt, raised}
+use Rattle.pulse.specs.declared.Thresholds.{Thresholds}
+use Rattle.pulse.specs.declared.Class.{Class}
+use Rattle.byte.specs.Byte.{byteAt, isBad, bitsAt}
 use Rattle.block.specs.declared.Found.{Found}
 use Rattle.block.specs.declared.Found.the-variants.{At, Nothing}
 use Rattle.block.specs.declared.Check.{Check}
 use Rattle.block.specs.declared.Check.the-variants.{Sound, LostAt, WrongSum}
+use Rattle.block.specs.Reading.{isLost, sumHolds}
 
 abbrev pub foundAt : Found → Option ℕ
 foundAt (At place) = some place
@@ -16,3 +24,30 @@ abbrev pub checkOf : Option ℕ → Bool → Check
 checkOf (some place) holds = LostAt place
 checkOf none true = Sound
 checkOf none false = WrongSum
+
+-- ---- The flags: raised where copy two's byte is the one that counts
+
+-- copy one's byte is bad at place i after the countdown
+abbrev pub isTwos : (cs : List Class) (one i : ℕ) → Bool
+isTwos cs one i = isBad (byteAt cs (one + 20 * (9 + i)))
+
+-- the row after place i
+abbrev pub flagged : (cs : List Class) (one i : ℕ) (row : List ℕ) → List ℕ
+flagged cs one i row = cond (isTwos cs one i) (raised row i) row
+
+-- no flag is raised
+abbrev pub Down : (row : List ℕ) → Type 0
+Down row = (i : ℕ) → flagAt row i ≡ false
+
+-- of the places below n, those that are copy two's are flagged
+abbrev pub Flags : (cs : List Class) (one n : ℕ) (row : List ℕ) → Type 0
+Flags cs one n row = (i : ℕ) → i < n → flagAt row i ≡ isTwos cs one i
+
+-- what rules 4 and 5 say; and where no place is lost, the flags
+pub record Checked (cs : List Class) (one two n : ℕ) (check : Check) (row : List ℕ) : Type 0 where
+  pub says : check ≡ checkOf (firstFrom (isLost cs one two) (n + 1) 0) (sumHolds cs one two n)
+  pub flags : firstFrom (isLost cs one two) (n + 1) 0 ≡ none → Flags cs one n row
+
+-- the bits of place i in the copy that its flag tells
+abbrev pub pickedAt : (t : Thresholds) (strip : List ℕ) (one two : ℕ) (row : List ℕ) (i : ℕ) → ℕ
+pickedAt t strip one two row i = bitsAt t strip (cond (flagAt row i) two one + 20 * (9 + i))

@@ -15,14 +15,14 @@ ghost use Prim.Native.Nat.{_+_, _-_, _*_, _≤_, _<_};
 ghost use mathlib.Core.Path.{_≡_};
 ghost use lib.ListN.{length, replicate};
 ghost use lib.Seq.{sets};
-ghost use Rattle.lists.specs.Places.{firstFrom};
+ghost use Rattle.lists.specs.Places.{firstFrom, tabulate};
 ghost use Rattle.refusal.specs.Refusal.{putAnswer, refusalAt, Written};
 ghost use Rattle.pulse.specs.Pulse.{fixed, classes, pulses};
 ghost use Rattle.pulse.specs.declared.Class.the-variants.{Short};
 ghost use Rattle.byte.specs.Byte.{byteAt, isGood};
 ghost use Rattle.block.specs.Block.{checksum, bytesClasses, copyClasses, copyPulses, trailer, blockPulses, wrongSize, wrongLeader, measureBlock, writeBlock};
-ghost use Rattle.block.specs.Reading.{startOf, counted, isMiscounted, placeAt, valueOrZero, valuesAt, isLost, sumHolds, readAt, readBlock, Reads};
-ghost use Rattle.block.specs.Checks.{foundAt, checkOf};
+ghost use Rattle.block.specs.Reading.{startOf, counted, isMiscounted, placeAt, readAt, readBlock, Reads};
+ghost use Rattle.block.specs.Checks.{foundAt, flagged, Down, Checked, pickedAt};
 ghost use Rattle.block.specs.Search.{notShort, lastFrom};
 
 // The largest payload.
@@ -33,6 +33,9 @@ pub const LEAST_LEADER: usize = 64;
 pub const MOST_LEADER: usize = 65535;
 
 const COUNTDOWN_BYTES: usize = 9;
+
+// A row of flags, eight to a byte, for the places of the largest payload and of its checksum.
+const FLAG_BYTES: usize = MOST_BYTES / 8 + 1;
 
 // That of copy one, and that of copy two.
 const COUNTDOWNS: [[u8; COUNTDOWN_BYTES]; 2] = [
@@ -315,11 +318,12 @@ fn read_at(t: Thresholds, strip: &[u32], start: usize, n: usize, out: &mut [u8])
     if let Found::At(i) = first_miscounted(t, strip, start, two) {
         return refused(Reason::WrongCountdown, i);
     }
-    match check_values(t, strip, start, two, n) {
+    let mut flags = [0u8; FLAG_BYTES];
+    match check_values(t, strip, start, two, n, &mut flags) {
         Check::LostAt(i) => refused(Reason::LostByte, i),
         Check::WrongSum => refused(Reason::WrongChecksum, n),
         Check::Sound => {
-            put_values(t, strip, start, two, n, out);
+            put_values(t, strip, start, two, n, &flags, out);
             BlockAnswer::Accepted(Extent { n, start, end })
         }
     }
@@ -351,58 +355,51 @@ fn first_miscounted(t: Thresholds, strip: &[u32], one: usize, two: usize) -> Fou
     Found::Nothing
 }
 
-// Rule 4 at place i after the countdown: copy one's byte where it is good, else copy two's.
-fn read_place(t: Thresholds, strip: &[u32], one: usize, two: usize, i: usize) -> ByteRead
+// Rule 4 at place i after the countdown: copy one's byte where it is good, else copy two's, and then flag i is raised.
+fn read_place(t: Thresholds, strip: &[u32], one: usize, two: usize, i: usize, flags: &mut [u8]) -> ByteRead
     requires { ⌜ (one ≤ two) × (two + 20 * (9 + i) ≤ length (now strip)) ⌝ }
-    ensures { λ r. ⌜ r ≡ placeAt (classes t (now (strip .entry))) one two i ⌝ }
+    ensures { λ r. ⌜ (r ≡ placeAt (classes t (now (strip .entry))) one two i) × (now (flags .exit) ≡ flagged (classes t (now (strip .entry))) one i (now (flags .entry))) ⌝ }
 {
     let at = byte::BYTE_PULSES * (COUNTDOWN_BYTES + i);
     let ByteRead::Good(value) = byte::read_byte(t, strip, one + at) else {
+        lists::raise_flag(flags, i);
         return byte::read_byte(t, strip, two + at);
     };
     ByteRead::Good(value)
 }
 
-// Rules 4 and 5: whether a place is lost, and whether the checksum holds for the repaired values.
-fn check_values(t: Thresholds, strip: &[u32], one: usize, two: usize, n: usize) -> Check
-    requires { ⌜ (one ≤ two) × (two + copyPulses n ≤ length (now strip)) ⌝ }
-    ensures { λ r. ⌜ r ≡ checkOf (firstFrom (isLost (classes t (now (strip .entry))) one two) (n + 1) 0) (sumHolds (classes t (now (strip .entry))) one two n) ⌝ }
+// Rules 4 and 5: whether a place is lost, and whether the checksum holds for the repaired values: these and the checksum, XORed, are 0
+// exactly where it does.
+fn check_values(t: Thresholds, strip: &[u32], one: usize, two: usize, n: usize, flags: &mut [u8]) -> Check
+    requires { ⌜ (one ≤ two) × (two + copyPulses n ≤ length (now strip)) × (n < 8 * length (now flags)) × Down (now flags) ⌝ }
+    ensures { λ r. ⌜ Checked (classes t (now (strip .entry))) one two n r (now (flags .exit)) ⌝ }
 {
     let mut sum: u8 = 0;
     let mut i: usize = 0;
-    while i < n {
-        let ByteRead::Good(value) = read_place(t, strip, one, two, i) else {
+    while i <= n {
+        let ByteRead::Good(value) = read_place(t, strip, one, two, i, flags) else {
             return Check::LostAt(i);
         };
         sum = sum ^ value;
         i = i + 1;
     }
-    let ByteRead::Good(expected) = read_place(t, strip, one, two, n) else {
-        return Check::LostAt(n);
-    };
-    if sum == expected {
+    if sum == 0 {
         Check::Sound
     } else {
         Check::WrongSum
     }
 }
 
-fn value_or_zero(r: ByteRead) -> u8
-    ensures { λ v. ⌜ v ≡ valueOrZero r ⌝ }
-{
-    match r {
-        ByteRead::Good(value) => value,
-        ByteRead::Bad => 0,
-    }
-}
-
-fn put_values(t: Thresholds, strip: &[u32], one: usize, two: usize, n: usize, out: &mut [u8])
+// Puts the values of a block that passed: of the byte in copy two where the flag is raised, else of the byte in copy one.
+fn put_values(t: Thresholds, strip: &[u32], one: usize, two: usize, n: usize, flags: &[u8], out: &mut [u8])
     requires { ⌜ (one ≤ two) × (two + copyPulses n ≤ length (now strip)) × (n ≤ length (now out)) ⌝ }
-    ensures { λ _. ⌜ now (out .exit) ≡ sets (now (out .entry)) 0 (valuesAt (classes t (now (strip .entry))) one two n) ⌝ }
+    ensures { λ _. ⌜ now (out .exit) ≡ sets (now (out .entry)) 0 (tabulate (pickedAt t (now (strip .entry)) one two (now (flags .entry))) n 0) ⌝ }
 {
     let mut i: usize = 0;
     while i < n {
-        out[i] = value_or_zero(read_place(t, strip, one, two, i));
+        let copy = if lists::flag(flags, i) { two } else { one };
+        let value = byte::value_at(t, strip, copy + byte::BYTE_PULSES * (COUNTDOWN_BYTES + i));
+        out[i] = value;
         i = i + 1;
     }
 }

@@ -1,60 +1,92 @@
--- `block::put_values` meets its contract. The invariant: the values left, put after those that are there, give the whole.
-use Prim.Native.Nat.{_+_, _-_, _≤_}
 use native.Mathlib.Omega.{arith}
-use mathlib.Core.Path.{refl, sym, ap, _∙_}
 use mathlib.Core.List.{_∷_}
-use borrow.Author.Needs.{needs}
+use mathlib.Core.Path.{_≡_, refl, sym, ap, _∙_}
+use mathlib.Core.Logic.{⊎-elim}
+use mathlib.Core.Bool.{cond}
 use denote.Ref.{now}
+use Rattle.lists.specs.Flags.{flagAt}
+use Rattle.byte.specs.Byte.{bitsAt}
+use borrow.Author.Needs.{needs}
+use Prim.Native.Nat.{_+_, _-_, _*_, _≤_}
+use Rattle.lists.specs.Places.{tabulate}
 use Rattle.lists.proofs.LoopLaws.{put-begun, put-one, put-done, table-begun, table-next, table-over, Putting, tableLeft}
-use Rattle.pulse.specs.Pulse.{classes}
-use Rattle.block.specs.Reading.{valueOrZero, valueAt, valuesAt}
+use Rattle.block.specs.Checks.{pickedAt}
 use Rattle.block.proofs.put_values.Statement.{statement}
 use Rattle.block.proofs.put_values.Tie as tie
+use Rattle.block.proofs.put_values.Reads as reads
+use Rattle.block.proofs.put_values.Lts as lts
+use Rattle.lists.proofs.flag.Reads as flag-reads
+use Rattle.byte.proofs.value_at.Reads as value-at-reads
 
 abbrev Inv-loop : tie.InvT-loop
-Inv-loop t strip one two n out₀ i₀ out i = (i ≤ n) × Putting out₀ 0 (valuesAt (classes t strip) one two n) out i (tableLeft (valueAt (classes t strip) one two) n i)
+Inv-loop t strip one two n flags out₀ i₀ out i = (i ≤ n) × Putting out₀ 0 (tabulate (pickedAt t strip one two flags) n 0) out i (tableLeft (pickedAt t strip one two flags) n i)
 
 abbrev μ-loop : tie.MeasureT-loop
-μ-loop t strip one two n out₀ i₀ out i = n - i
+μ-loop t strip one two n flags out₀ i₀ out i = n - i
 
+-- src/lib.rt:359:5
 loop-holds : tie.Need-loop-holds Inv-loop μ-loop
 loop-holds c = (omega arith, put-begun _ 0 0 _ _ refl (table-begun _ _))
 
-read-place-requires : tie.Need-read-place-requires Inv-loop μ-loop
-read-place-requires c κs = search needs
+-- src/lib.rt:360:23
+flag-requires : tie.Need-flag-requires Inv-loop μ-loop
+flag-requires c κs = search needs
 
-value-or-zero-requires : tie.Need-value-or-zero-requires Inv-loop μ-loop
-value-or-zero-requires c κs = search needs
+-- src/lib.rt:361:68
+add-value-at : tie.Need-add-value-at Inv-loop μ-loop
+add-value-at c = search needs
 
+-- src/lib.rt:361:47
+mul-value-at : tie.Need-mul-value-at Inv-loop μ-loop
+mul-value-at c = search needs
+
+-- src/lib.rt:361:40
+add-value-at-2 : tie.Need-add-value-at-2 Inv-loop μ-loop
+add-value-at-2 c = ⊎-elim (λ w. omega arith) (λ w. omega arith) (c .before .if1 .came)
+
+-- src/lib.rt:361:13
+value-at-requires : tie.Need-value-at-requires Inv-loop μ-loop
+value-at-requires c κs = search needs
+
+-- src/lib.rt:362:9
 slice-write-out : tie.Need-slice-write-out Inv-loop μ-loop
 slice-write-out c = search needs
 
+-- src/lib.rt:363:13
 add-i : tie.Need-add-i Inv-loop μ-loop
 add-i c = search needs
 
+-- src/lib.rt:359:5
 loop-less : tie.Need-loop-less Inv-loop μ-loop
 loop-less c = search needs
 
+-- src/lib.rt:359:5
 loop-again : tie.Need-loop-again Inv-loop μ-loop
 loop-again c =
-    let h = c .before .before .before in
-    let a = h .before .before .before .args in
-    let value = valueAt (classes (a .t) (now (a .strip))) (a .one) (a .two) in (
+    let j = c .before .before in
+    let h = j .before .before .before in
+    let a = h .before .before .before .before .args in
+    let value = pickedAt (a .t) (now (a .strip)) (a .one) (a .two) (now (a .flags)) in
+    let e : j .if1 .copy ≡ cond (flagAt (now (a .flags)) (h .loop .i)) (a .two) (a .one) =
+    ⊎-elim (λ w. rw (← (j .before .flag .ensures), w .0 .taken) (w .1)) (λ w. rw (← (j .before .flag .ensures), w .0 .left) (w .1)) (j .if1 .came)
+    in (
       omega arith,
       put-one (h .loop .inv .1) _ (tableLeft value (a .n) (h .loop .i + 1))
-          (table-next value (a .n) (h .loop .i) (c .before .before .loop-test .taken)
-          ∙ ap (λ v. v ∷ tableLeft value (a .n) (h .loop .i + 1)) (sym (c .value-or-zero .ensures ∙ ap valueOrZero (c .before .read-place .ensures))))
+          (table-next value (a .n) (h .loop .i) (j .before .before .loop-test .taken)
+          ∙ ap (λ v. v ∷ tableLeft value (a .n) (h .loop .i + 1)) (sym (c .value-at .ensures ∙ ap (λ p. bitsAt (a .t) (now (a .strip)) (p + 20 * (9 + h .loop .i))) e)))
           refl,
     )
 
+-- src/lib.rt:354:1
 same-length : tie.Need-same-length Inv-loop μ-loop
 same-length c = search needs
 
+-- src/lib.rt:354:1
 returns : tie.Need-returns Inv-loop μ-loop
 returns c =
     let h = c .before in
-    let a = h .before .before .before .args in
-    put-done (h .loop .inv .1) (table-over (valueAt (classes (a .t) (now (a .strip))) (a .one) (a .two)) (a .n) (h .loop .i) (c .loop-test .left))
+    let a = h .before .before .before .before .args in
+    put-done (h .loop .inv .1) (table-over (pickedAt (a .t) (now (a .strip)) (a .one) (a .two) (now (a .flags))) (a .n) (h .loop .i) (c .loop-test .left))
 
 pub put-values-spec : {M : Type 1} → statement M
 put-values-spec =
@@ -63,8 +95,11 @@ put-values-spec =
     Inv-loop
     μ-loop
     loop-holds
-    read-place-requires
-    value-or-zero-requires
+    flag-requires
+    add-value-at
+    mul-value-at
+    add-value-at-2
+    value-at-requires
     slice-write-out
     add-i
     loop-less

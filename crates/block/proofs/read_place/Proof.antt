@@ -22,21 +22,34 @@ enum-known-value c = search needs
 enum-told : tie.Need-enum-told
 enum-told c = search needs
 
+raise-flag-requires : tie.Need-raise-flag-requires
+raise-flag-requires c κs = search needs
+
 add-read-byte-2 : tie.Need-add-read-byte-2
 add-read-byte-2 c = search needs
 
 read-byte-requires-2 : tie.Need-read-byte-requires-2
 read-byte-requires-2 c κs = search needs
 
+same-length : tie.Need-same-length
+same-length c = search needs
+
 returns : tie.Need-returns
 unfolding placeAt
 returns c =
-    let r = c .before .before .before in
-    rw (← (r .read-byte .ensures), c .before .enum-told .given .1) (c .read-byte2 .ensures)
+    let f = c .before .before .before in
+    let b = f .before .before in
+    let r = b .before .before in
+    (
+      rw (← (r .read-byte .ensures), b .enum-told .given .1) (c .read-byte2 .ensures),
+      rw (← (r .read-byte .ensures), b .enum-told .given .1) (f .raise-flag .ensures),
+    )
 
 returns-2 : tie.Need-returns-2
 unfolding placeAt
-returns-2 c = let r = c .before .before .before in rw (← (r .read-byte .ensures), c .before .value .given .1)
+returns-2 c =
+    let r = c .before .before .before in
+    (rw (← (r .read-byte .ensures), c .before .value .given .1), rw (← (r .read-byte .ensures), c .before .value .given .1))
 
 pub read-place-spec : {M : Type 1} → statement M
 read-place-spec =
@@ -48,7 +61,9 @@ read-place-spec =
     read-byte-requires
     enum-known-value
     enum-told
+    raise-flag-requires
     add-read-byte-2
     read-byte-requires-2
+    same-length
     returns
     returns-2)
