@@ -29,7 +29,7 @@ use Rattle.block.specs.declared.Check.{Check}
 use Rattle.block.specs.declared.Check.the-variants.{Sound, LostAt, WrongSum}
 use Rattle.block.specs.Block.{xorFrom, checksum}
 use Rattle.block.specs.Reading.{repaired, placeAt, isLost, valueOrZero, valueAt, valuesAt, sumHolds}
-use Rattle.block.specs.Checks.{checkOf, isTwos, flagged, Down, Flags, Checked, pickedAt}
+use Rattle.block.specs.Checks.{checkOf, badInOne, flagged, Down, Flags, Checked, pickedAt}
 
 -- ---- The sum: with the checksum XORed too it is 0 exactly where the checksum holds
 
@@ -104,7 +104,7 @@ module _ {cs : List Class} {one two n : ℕ} {row₀ row : List ℕ} {sum i : �
   unfolding xorFrom
   next h room e f =
       let long = u .long in
-      let t = isTwos cs one i in
+      let t = badInOne cs one i in
       record {
         few = omega arith;
         left = first-passed (isLost cs one two) (n + 1) i (omega arith) (ap isBad e) ∙ u .left;

@@ -25,25 +25,25 @@ checkOf (some place) holds = LostAt place
 checkOf none true = Sound
 checkOf none false = WrongSum
 
--- ---- The flags: raised where copy two's byte is the one that counts
+-- ---- The flags: raised where copy one's byte is bad, so that copy two's counts
 
--- copy one's byte is bad at place i after the countdown
-abbrev pub isTwos : (cs : List Class) (one i : ℕ) → Bool
-isTwos cs one i = isBad (byteAt cs (one + 20 * (9 + i)))
-
--- the row after place i
-abbrev pub flagged : (cs : List Class) (one i : ℕ) (row : List ℕ) → List ℕ
-flagged cs one i row = cond (isTwos cs one i) (raised row i) row
+-- at place i after the countdown
+abbrev pub badInOne : (cs : List Class) (one i : ℕ) → Bool
+badInOne cs one i = isBad (byteAt cs (one + 20 * (9 + i)))
 
 -- no flag is raised
 abbrev pub Down : (row : List ℕ) → Type 0
 Down row = (i : ℕ) → flagAt row i ≡ false
 
--- of the places below n, those that are copy two's are flagged
-abbrev pub Flags : (cs : List Class) (one n : ℕ) (row : List ℕ) → Type 0
-Flags cs one n row = (i : ℕ) → i < n → flagAt row i ≡ isTwos cs one i
+-- the row after place i
+abbrev pub flagged : (cs : List Class) (one i : ℕ) (row : List ℕ) → List ℕ
+flagged cs one i row = cond (badInOne cs one i) (raised row i) row
 
--- what rules 4 and 5 say; and where no place is lost, the flags
+-- the row tells the places below n
+abbrev pub Flags : (cs : List Class) (one n : ℕ) (row : List ℕ) → Type 0
+Flags cs one n row = (i : ℕ) → i < n → flagAt row i ≡ badInOne cs one i
+
+-- what rules 4 and 5 say, and the row where no place is lost
 pub record Checked (cs : List Class) (one two n : ℕ) (check : Check) (row : List ℕ) : Type 0 where
   pub says : check ≡ checkOf (firstFrom (isLost cs one two) (n + 1) 0) (sumHolds cs one two n)
   pub flags : firstFrom (isLost cs one two) (n + 1) 0 ≡ none → Flags cs one n row

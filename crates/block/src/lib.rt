@@ -34,9 +34,6 @@ pub const MOST_LEADER: usize = 65535;
 
 const COUNTDOWN_BYTES: usize = 9;
 
-// A row of flags, eight to a byte, for the places of the largest payload and of its checksum.
-const FLAG_BYTES: usize = MOST_BYTES / 8 + 1;
-
 // That of copy one, and that of copy two.
 const COUNTDOWNS: [[u8; COUNTDOWN_BYTES]; 2] = [
     [0x89, 0x88, 0x87, 0x86, 0x85, 0x84, 0x83, 0x82, 0x81],
@@ -55,6 +52,9 @@ const TRAILER_PULSES: usize = 1 + TRAILER_SHORTS;
 const SYNC_SHORTS: usize = 16;
 
 const SYNC_BYTE: u8 = 0x89;
+
+// The reader's row of flags: one for each place of the largest payload and one for the checksum's, eight to a byte.
+const FLAG_BYTES: usize = MOST_BYTES / 8 + 1;
 
 // Where an accepted block stands: its payload bytes, its start, and the place after copy two.
 pub struct Extent {
@@ -304,7 +304,7 @@ fn find_start(t: Thresholds, strip: &[u32], from: usize) -> Found
     }
 }
 
-// Rules 2 to 5, for a start that was found. Nothing is put before all of them hold.
+// Rules 2 to 5, for a start that was found. Nothing is put before all of them hold; where copy two's byte counts is kept in a row of flags.
 fn read_at(t: Thresholds, strip: &[u32], start: usize, n: usize, out: &mut [u8]) -> BlockAnswer
     requires { ⌜ (start ≤ length (now strip)) × (n ≤ 8192) × (n ≤ length (now out)) ⌝ }
     ensures { λ r. ⌜ Reads (readAt (classes t (now (strip .entry))) start n) (now (out .entry)) r (now (out .exit)) ⌝ }
@@ -355,8 +355,15 @@ fn first_miscounted(t: Thresholds, strip: &[u32], one: usize, two: usize) -> Fou
     Found::Nothing
 }
 
-// Rule 4 at place i after the countdown: copy one's byte where it is good, else copy two's, and then flag i is raised.
-fn read_place(t: Thresholds, strip: &[u32], one: usize, two: usize, i: usize, flags: &mut [u8]) -> ByteRead
+// Rule 4 at place i after the countdown: copy one's byte where it is good, else copy two's, and then the place's flag is raised.
+fn read_place(
+    t: Thresholds,
+    strip: &[u32],
+    one: usize,
+    two: usize,
+    i: usize,
+    flags: &mut [u8],
+) -> ByteRead
     requires { ⌜ (one ≤ two) × (two + 20 * (9 + i) ≤ length (now strip)) ⌝ }
     ensures { λ r. ⌜ (r ≡ placeAt (classes t (now (strip .entry))) one two i) × (now (flags .exit) ≡ flagged (classes t (now (strip .entry))) one i (now (flags .entry))) ⌝ }
 {
@@ -368,9 +375,16 @@ fn read_place(t: Thresholds, strip: &[u32], one: usize, two: usize, i: usize, fl
     ByteRead::Good(value)
 }
 
-// Rules 4 and 5: whether a place is lost, and whether the checksum holds for the repaired values: these and the checksum, XORed, are 0
-// exactly where it does.
-fn check_values(t: Thresholds, strip: &[u32], one: usize, two: usize, n: usize, flags: &mut [u8]) -> Check
+// Rules 4 and 5: whether a place is lost, and whether the checksum holds for the repaired values. It does exactly where these and the
+// checksum, all XORed, are 0.
+fn check_values(
+    t: Thresholds,
+    strip: &[u32],
+    one: usize,
+    two: usize,
+    n: usize,
+    flags: &mut [u8],
+) -> Check
     requires { ⌜ (one ≤ two) × (two + copyPulses n ≤ length (now strip)) × (n < 8 * length (now flags)) × Down (now flags) ⌝ }
     ensures { λ r. ⌜ Checked (classes t (now (strip .entry))) one two n r (now (flags .exit)) ⌝ }
 {
@@ -390,8 +404,16 @@ fn check_values(t: Thresholds, strip: &[u32], one: usize, two: usize, n: usize, 
     }
 }
 
-// Puts the values of a block that passed: of the byte in copy two where the flag is raised, else of the byte in copy one.
-fn put_values(t: Thresholds, strip: &[u32], one: usize, two: usize, n: usize, flags: &[u8], out: &mut [u8])
+// Puts the values of a block that passed, from copy two where a place's flag is raised and from copy one elsewhere. No byte is checked.
+fn put_values(
+    t: Thresholds,
+    strip: &[u32],
+    one: usize,
+    two: usize,
+    n: usize,
+    flags: &[u8],
+    out: &mut [u8],
+)
     requires { ⌜ (one ≤ two) × (two + copyPulses n ≤ length (now strip)) × (n ≤ length (now out)) ⌝ }
     ensures { λ _. ⌜ now (out .exit) ≡ sets (now (out .entry)) 0 (tabulate (pickedAt t (now (strip .entry)) one two (now (flags .entry))) n 0) ⌝ }
 {

@@ -1,13 +1,12 @@
+-- `block::check_values` meets its contract. The invariant: no place so far is lost, the sum so far, XORed with the values left, is that
+-- of all, and the places so far are flagged.
+use Prim.Native.Nat.{_+_, _-_}
 use mathlib.Core.Path.{sym, _∙_}
 use borrow.Author.Needs.{needs}
-use Prim.Native.Nat.{_+_, _-_}
 use Rattle.pulse.specs.Pulse.{classes}
 use Rattle.block.proofs.Checking.{Checking, begun, lost, next, sound, wrong}
 use Rattle.block.proofs.check_values.Statement.{statement}
 use Rattle.block.proofs.check_values.Tie as tie
-use Rattle.block.proofs.check_values.Reads as reads
-use Rattle.block.proofs.check_values.Lts as lts
-use Rattle.block.proofs.read_place.Reads as read-place-reads
 
 abbrev Inv-loop : tie.InvT-loop
 Inv-loop t strip one two n flags₀ sum₀ i₀ flags sum i = Checking (classes t strip) one two n flags₀ flags sum i
@@ -15,42 +14,33 @@ Inv-loop t strip one two n flags₀ sum₀ i₀ flags sum i = Checking (classes 
 abbrev μ-loop : tie.MeasureT-loop
 μ-loop t strip one two n flags₀ sum₀ i₀ flags sum i = n + 1 - i
 
--- src/lib.rt:339:5
 loop-holds : tie.Need-loop-holds Inv-loop μ-loop
 loop-holds c = begun _ _ _ _ _ (c .before .before .pre .3)
 
--- src/lib.rt:340:37
 read-place-requires : tie.Need-read-place-requires Inv-loop μ-loop
 read-place-requires c κs = search needs
 
--- src/lib.rt:340:28
 enum-known-value : tie.Need-enum-known-value Inv-loop μ-loop
 enum-known-value c = search needs
 
--- src/lib.rt:341:13
 enum-told : tie.Need-enum-told Inv-loop μ-loop
 enum-told c = search needs
 
--- src/lib.rt:341:13
 same-length : tie.Need-same-length Inv-loop μ-loop
 same-length c = search needs
 
--- src/lib.rt:341:13
 returns : tie.Need-returns Inv-loop μ-loop
 returns c =
     let r = c .before .before .before .before in
     let h = r .before .before in
     lost (h .before .loop .inv) (h .loop-test .taken) (sym (r .read-place .ensures .0) ∙ c .enum-told .given .1)
 
--- src/lib.rt:344:13
 add-i : tie.Need-add-i Inv-loop μ-loop
 add-i c = search needs
 
--- src/lib.rt:339:5
 loop-less : tie.Need-loop-less Inv-loop μ-loop
 loop-less c = search needs
 
--- src/lib.rt:339:5
 loop-again : tie.Need-loop-again Inv-loop μ-loop
 loop-again c =
     let r = c .before .before .before .before .before in
@@ -58,19 +48,15 @@ loop-again c =
     next (h .before .loop .inv) (h .loop-test .taken) (h .before .before .before .before .pre .2) (sym (r .read-place .ensures .0) ∙ c .before .value .given .1)
     (r .read-place .ensures .1)
 
--- src/lib.rt:333:1
 same-length-2 : tie.Need-same-length-2 Inv-loop μ-loop
 same-length-2 c = search needs
 
--- src/lib.rt:333:1
 returns-2 : tie.Need-returns-2 Inv-loop μ-loop
 returns-2 c = sound (c .before .before .loop .inv) (c .before .loop-test .left) (c .if1 .taken)
 
--- src/lib.rt:333:1
 same-length-3 : tie.Need-same-length-3 Inv-loop μ-loop
 same-length-3 c = search needs
 
--- src/lib.rt:333:1
 returns-3 : tie.Need-returns-3 Inv-loop μ-loop
 returns-3 c = wrong (c .before .before .loop .inv) (c .before .loop-test .left) (c .if1 .left)
 

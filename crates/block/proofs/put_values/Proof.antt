@@ -1,22 +1,19 @@
+-- `block::put_values` meets its contract. The invariant: the values left, put after those that are there, give the whole.
+use Prim.Native.Nat.{_+_, _-_, _*_, _≤_}
 use native.Mathlib.Omega.{arith}
-use mathlib.Core.List.{_∷_}
 use mathlib.Core.Path.{_≡_, refl, sym, ap, _∙_}
 use mathlib.Core.Logic.{⊎-elim}
 use mathlib.Core.Bool.{cond}
-use denote.Ref.{now}
-use Rattle.lists.specs.Flags.{flagAt}
-use Rattle.byte.specs.Byte.{bitsAt}
+use mathlib.Core.List.{_∷_}
 use borrow.Author.Needs.{needs}
-use Prim.Native.Nat.{_+_, _-_, _*_, _≤_}
+use denote.Ref.{now}
 use Rattle.lists.specs.Places.{tabulate}
+use Rattle.lists.specs.Flags.{flagAt}
 use Rattle.lists.proofs.LoopLaws.{put-begun, put-one, put-done, table-begun, table-next, table-over, Putting, tableLeft}
+use Rattle.byte.specs.Byte.{bitsAt}
 use Rattle.block.specs.Checks.{pickedAt}
 use Rattle.block.proofs.put_values.Statement.{statement}
 use Rattle.block.proofs.put_values.Tie as tie
-use Rattle.block.proofs.put_values.Reads as reads
-use Rattle.block.proofs.put_values.Lts as lts
-use Rattle.lists.proofs.flag.Reads as flag-reads
-use Rattle.byte.proofs.value_at.Reads as value-at-reads
 
 abbrev Inv-loop : tie.InvT-loop
 Inv-loop t strip one two n flags out₀ i₀ out i = (i ≤ n) × Putting out₀ 0 (tabulate (pickedAt t strip one two flags) n 0) out i (tableLeft (pickedAt t strip one two flags) n i)
@@ -24,43 +21,33 @@ Inv-loop t strip one two n flags out₀ i₀ out i = (i ≤ n) × Putting out₀
 abbrev μ-loop : tie.MeasureT-loop
 μ-loop t strip one two n flags out₀ i₀ out i = n - i
 
--- src/lib.rt:359:5
 loop-holds : tie.Need-loop-holds Inv-loop μ-loop
 loop-holds c = (omega arith, put-begun _ 0 0 _ _ refl (table-begun _ _))
 
--- src/lib.rt:360:23
 flag-requires : tie.Need-flag-requires Inv-loop μ-loop
 flag-requires c κs = search needs
 
--- src/lib.rt:361:68
 add-value-at : tie.Need-add-value-at Inv-loop μ-loop
 add-value-at c = search needs
 
--- src/lib.rt:361:47
 mul-value-at : tie.Need-mul-value-at Inv-loop μ-loop
 mul-value-at c = search needs
 
--- src/lib.rt:361:40
 add-value-at-2 : tie.Need-add-value-at-2 Inv-loop μ-loop
 add-value-at-2 c = ⊎-elim (λ w. omega arith) (λ w. omega arith) (c .before .if1 .came)
 
--- src/lib.rt:361:13
 value-at-requires : tie.Need-value-at-requires Inv-loop μ-loop
 value-at-requires c κs = search needs
 
--- src/lib.rt:362:9
 slice-write-out : tie.Need-slice-write-out Inv-loop μ-loop
 slice-write-out c = search needs
 
--- src/lib.rt:363:13
 add-i : tie.Need-add-i Inv-loop μ-loop
 add-i c = search needs
 
--- src/lib.rt:359:5
 loop-less : tie.Need-loop-less Inv-loop μ-loop
 loop-less c = search needs
 
--- src/lib.rt:359:5
 loop-again : tie.Need-loop-again Inv-loop μ-loop
 loop-again c =
     let j = c .before .before in
@@ -77,11 +64,9 @@ loop-again c =
           refl,
     )
 
--- src/lib.rt:354:1
 same-length : tie.Need-same-length Inv-loop μ-loop
 same-length c = search needs
 
--- src/lib.rt:354:1
 returns : tie.Need-returns Inv-loop μ-loop
 returns c =
     let h = c .before in

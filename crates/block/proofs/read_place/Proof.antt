@@ -39,8 +39,7 @@ unfolding placeAt
 returns c =
     let f = c .before .before .before in
     let b = f .before .before in
-    let r = b .before .before in
-    (
+    let r = b .before .before in (
       rw (← (r .read-byte .ensures), b .enum-told .given .1) (c .read-byte2 .ensures),
       rw (← (r .read-byte .ensures), b .enum-told .given .1) (f .raise-flag .ensures),
     )
