@@ -15,7 +15,7 @@ use lib.Dec.{eqb}
 use lib.ListN.{length}
 use Rattle.lists.specs.Places.{firstFrom, tabulate}
 use Rattle.lists.specs.Flags.{flagAt, raised}
-use Rattle.lists.proofs.PlaceLaws.{none-first, tabulate-snoc}
+use Rattle.lists.proofs.PlaceLaws.{none-first, tabulate-snoc, tabulate-same}
 use Rattle.lists.proofs.LoopLaws.{firstLeft, first-begun, first-passed, first-here, first-over, tableLeft, table-begun, table-next, table-over}
 use Rattle.lists.proofs.FlagLaws.{length-raised, raised-same, raised-other}
 use Rattle.pulse.specs.declared.Thresholds.{Thresholds}
@@ -146,12 +146,6 @@ module _ {cs : List Class} {one two n : ℕ} {row₀ row : List ℕ} {sum i : �
     wrong q = ended false refl (xor-other expected (valueAt cs one two n) (λ e. q (sum-is ∙ e)))
 
 -- ---- The values
-
-tabulate-same : (f g : ℕ → ℕ) (count at : ℕ) → ((i : ℕ) → at ≤ i → i < at + count → f i ≡ g i) → tabulate f count at ≡ tabulate g count at
-unfolding tabulate
-tabulate-same f g zero at h = refl
-tabulate-same f g (suc count) at h =
-    ap₂ (λ x (xs : List ℕ). x ∷ xs) (h at (omega arith) (omega arith)) (tabulate-same f g count (suc at) (λ i a b. h i (omega arith) (omega arith)))
 
 module _ (t : Thresholds) (strip : List ℕ) (one two n : ℕ) where
   abbrev cs : List Class

@@ -6,3 +6,4 @@ pub mod CodingLaws
 pub mod ByteLaws
 pub mod ValueLaws
 pub mod DamageLaws
+mod Matching

@@ -14,8 +14,8 @@ ghost use lib.ListN.{length};
 ghost use lib.Seq.{sets};
 ghost use Rattle.lists.specs.Buffer.{hasRoom, putAt};
 ghost use Rattle.pulse.specs.Pulse.{classOf, classes, pulses};
-ghost use Rattle.byte.specs.Byte.{isOdd, bits, parityBit, coded, bytePulses, pairOf, isSound, bitOf, byteAt, bitsAt};
-ghost use Rattle.byte.specs.Decoder.{empty, fed, closed};
+ghost use Rattle.byte.specs.Byte.{isOdd, bits, parityBit, coded, bytePulses, pairOf, isSound, bitOf, byteAt, isGood, bitsAt};
+ghost use Rattle.byte.specs.Decoder.{empty, fed, closed, codeOf, isPair};
 
 // What twenty pulses are.
 pub enum ByteRead {
@@ -80,6 +80,32 @@ pub fn value_at(t: Thresholds, strip: &[u32], at: usize) -> u8
         i = i + 1;
     }
     value
+}
+
+// Whether the twenty pulses at an index are a good byte of this value. The look ends at the first pair that is not as in that byte.
+pub fn matches(t: Thresholds, strip: &[u32], at: usize, value: u8) -> bool
+    ensures { λ r. ⌜ r ≡ isGood value (byteAt (classes t (now (strip .entry))) at) ⌝ }
+{
+    if strip.len() < BYTE_PULSES {
+        return false;
+    }
+    if strip.len() - BYTE_PULSES < at {
+        return false;
+    }
+    let code = code_of(value);
+    let mut i: usize = 0;
+    while i < PAIRS {
+        let j = at + PAIR_PULSES * i;
+        if !is_pair(
+            i,
+            (code >> i) % 2,
+            pair_of(t, Cycles(strip[j]), Cycles(strip[j + 1])),
+        ) {
+            return false;
+        }
+        i = i + 1;
+    }
+    true
 }
 
 // Puts the twenty pulses of a byte at an index, and answers whether there was room. Without room nothing is put.
@@ -166,6 +192,23 @@ fn is_sound(i: usize, p: Pair) -> bool
     ensures { λ r. ⌜ r ≡ isSound i p ⌝ }
 {
     if i == 0 { p.marker } else { p.zero | p.one }
+}
+
+// The bits of a byte, each at the place of its pair: the value at 1 to 8, the parity bit at 9.
+fn code_of(value: u8) -> u32
+    ensures { λ r. ⌜ r ≡ codeOf value ⌝ }
+{
+    FIRST * (value as u32 + VALUES * (parity_bit(value) as u32))
+}
+
+// Whether a pair is the marker, for pair 0, or this bit.
+fn is_pair(i: usize, bit: u32, p: Pair) -> bool
+    ensures { λ r. ⌜ r ≡ isPair i bit p ⌝ }
+{
+    if i == 0 {
+        return p.marker;
+    }
+    if bit == 0 { p.zero } else { p.one }
 }
 
 // The bit that a pair is, 0 where it is none.

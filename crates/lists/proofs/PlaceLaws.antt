@@ -3,7 +3,7 @@ use Prim.Native.Nat.{ℕ, zero, suc, _+_, _≤_, _<_}
 use native.Mathlib.Omega.{arith}
 use native.Mathlib.Nat.{add-zero}
 use native.Mathlib.Decide.{ℕ-discrete}
-use mathlib.Core.Path.{_≡_, refl, ap, _∙_}
+use mathlib.Core.Path.{_≡_, refl, ap, ap₂, _∙_}
 use mathlib.Core.Bool.{Bool, true, false, cond}
 use mathlib.Core.List.{List, [], _∷_, _++_}
 use mathlib.Core.Option.{Option, none, some}
@@ -84,6 +84,13 @@ tabulate-snoc f zero at = rw add-zero
 tabulate-snoc f (suc count) at =
     let e : at + suc count ≡ suc at + count = omega arith in
     rw (e, ← (tabulate-snoc f count (suc at)))
+
+-- two functions that agree at these places make the same list
+pub tabulate-same : (f g : ℕ → ℕ) (count at : ℕ) → ((i : ℕ) → at ≤ i → i < at + count → f i ≡ g i) → tabulate f count at ≡ tabulate g count at
+unfolding tabulate
+tabulate-same f g zero at h = refl
+tabulate-same f g (suc count) at h =
+    ap₂ (λ x (xs : List ℕ). x ∷ xs) (h at (omega arith) (omega arith)) (tabulate-same f g count (suc at) (λ i a b. h i (omega arith) (omega arith)))
 
 pub length-tabulate : (f : ℕ → ℕ) (count at : ℕ) → length (tabulate f count at) ≡ count
 unfolding tabulate
