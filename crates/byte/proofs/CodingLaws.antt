@@ -11,7 +11,7 @@ use Rattle.lists.proofs.PlaceLaws.{tabulate-snoc, length-tabulate}
 use Rattle.pulse.specs.declared.Class.{Class}
 use Rattle.pulse.specs.declared.Class.the-variants.{Short, Medium}
 use Rattle.pulse.specs.Pulse.{writtenAs}
-use Rattle.byte.specs.Byte.{bits, coded, byteClasses, bytePulses, valueOf}
+use Rattle.byte.specs.Byte.{bits, coded, byteClasses, bytePulses, bytesClasses, bytesPulses, valueOf}
 
 -- ---- coded
 
@@ -42,6 +42,16 @@ length-byte b = simp (length-coded, length-append, length-bits)
 
 pub length-bytePulses : (b : ℕ) → length (bytePulses b) ≡ 20
 length-bytePulses b = length-map (byteClasses b) writtenAs ∙ length-byte b
+
+-- ---- bytesClasses
+
+pub length-bytes : (bs : List ℕ) → length (bytesClasses bs) ≡ 20 * length bs
+unfolding bytesClasses
+length-bytes [] = refl
+length-bytes (b ∷ bs) = simp (length-append, length-byte, length-bytes bs) (omega arith)
+
+pub length-bytesPulses : (bs : List ℕ) → length (bytesPulses bs) ≡ 20 * length bs
+length-bytesPulses bs = length-map (bytesClasses bs) writtenAs ∙ length-bytes bs
 
 -- ---- valueOf
 

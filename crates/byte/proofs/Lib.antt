@@ -1,6 +1,7 @@
 mod Parity
 mod PairLaws
 mod Decoding
+mod NibbleLaws
 mod Stores
 pub mod CodingLaws
 pub mod ByteLaws

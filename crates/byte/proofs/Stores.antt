@@ -1,14 +1,13 @@
--- The pulses of a byte, stored one pair after the other.
-use Prim.Native.Nat.{ℕ, zero, suc, _+_, _-_, _*_, _/_, _%_, _^_, _≤_, _<_}
-use native.Mathlib.Nat.{div-one, div-div-eq-div-mul, pow-suc}
+-- The pulses of bytes, stored one part after the other.
+use Prim.Native.Nat.{ℕ, zero, suc, _+_, _*_, _/_, _%_, _≤_, _<_}
 use native.Mathlib.Numerals.{add-one}
 use native.Mathlib.Omega.{arith}
 use mathlib.Core.Path.{_≡_, refl, sym, ap, _∙_}
 use mathlib.Core.Bool.{true, false}
 use mathlib.Core.List.{List, [], _∷_, _++_, append-nil, map-append}
 use borrow.Author.Tests.{le-leb, lt-leb}
-use lib.ListN.{length, length-map}
-use lib.Seq.{sets}
+use lib.ListN.{length, drop, getD, drop-of-length-le}
+use lib.Seq.{sets, drop-cons}
 use Rattle.lists.specs.Buffer.{hasRoom, putAt}
 use Rattle.lists.proofs.BufferLaws.{put-room, put-none}
 use Rattle.lists.proofs.LoopLaws.{Putting, put-begun, put-next, put-done}
@@ -16,8 +15,10 @@ use Rattle.pulse.specs.declared.Class.{Class}
 use Rattle.pulse.specs.declared.Class.the-variants.{Short, Medium, Long}
 use Rattle.pulse.specs.Pulse.{writtenAs, pulses}
 use Rattle.pulse.proofs.PulseLaws.{put-pulses}
-use Rattle.byte.specs.Byte.{bits, parityBit, coded, byteClasses, bytePulses}
-use Rattle.byte.proofs.CodingLaws.{coded-append, length-coded, length-bits, length-bytePulses}
+use Rattle.byte.specs.Byte.{bits, parityBit, coded, byteClasses, bytePulses, bytesClasses, bytesPulses}
+use Rattle.byte.specs.Nibbles.{nibble}
+use Rattle.byte.proofs.CodingLaws.{coded-append, length-coded, length-bits, length-bytePulses, length-bytesPulses}
+use Rattle.byte.proofs.NibbleLaws.{bits-put}
 
 -- ---- A bit
 
@@ -30,61 +31,57 @@ unfolding coded
 coded-one zero h = absurd (h refl)
 coded-one (suc d) h = refl
 
--- ---- The eight bits: with i of them put, the rest put after them gives the whole
+-- ---- A byte: the marker, the eight bits in two nibbles, the parity bit
 
--- the bits of b from bit i on are those of this number
-abbrev above : (b i : ℕ) → ℕ
-above b i = b / 2 ^ i
-
-above-next : (b i : ℕ) → above b i / 2 ≡ above b (i + 1)
-above-next b i = div-div-eq-div-mul b (2 ^ i) 2 ∙ ap (λ k. b / k) (sym (pow-suc 2 i)) ∙ ap (λ k. b / 2 ^ k) (sym (add-one i))
-
-module _ (out₀ : List ℕ) (at b : ℕ) where
-  abbrev pub BitsPut : List ℕ → ℕ → Type 0
-  BitsPut out i = Putting out₀ at (pulses (coded (bits 8 b))) out (at + 2 * i) (pulses (coded (bits (8 - i) (above b i))))
-
-  pub begun : BitsPut out₀ 0
-  begun = put-begun out₀ at (at + 2 * 0) _ _ (omega arith) (ap (λ v. pulses (coded (bits 8 v))) (div-one b))
-
-  module _ {out : List ℕ} {i : ℕ} (u : BitsPut out i) where
-    pub next : {out′ : List ℕ} → i < 8 → out′ ≡ sets out (at + 2 * i) (pulses (coded (above b i % 2 ∷ []))) → BitsPut out′ (i + 1)
-    unfolding bits
-    next more e =
-        let s : 8 - i ≡ suc (8 - (i + 1)) = omega arith in
-        let now = coded (above b i % 2 ∷ []) in
-        let left = coded (bits (8 - (i + 1)) (above b (i + 1))) in
-        put-next u (pulses now) (pulses left)
-        (ap (λ k. pulses (coded (bits k (above b i)))) s
-        ∙ ap (λ v. pulses (coded (above b i % 2 ∷ bits (8 - (i + 1)) v))) (above-next b i)
-        ∙ ap pulses (coded-append (above b i % 2 ∷ []) (bits (8 - (i + 1)) (above b (i + 1)))) ∙ map-append writtenAs now left)
-        e
-        (rw (length-map now writtenAs, length-coded (above b i % 2 ∷ [])) (omega arith))
-
-    pub done : 8 ≤ i → out ≡ sets out₀ at (pulses (coded (bits 8 b)))
-    unfolding bits coded
-    done last = put-done u (ap (λ k. pulses (coded (bits k (above b i)))) (let z : 8 - i ≡ 0 = omega arith in z))
-
--- ---- The whole byte
-
-pub put-nothing : (out : List ℕ) (at b : ℕ) → length out < at + 20 → (false ≡ hasRoom out at 20) × (out ≡ putAt out at (bytePulses b))
-put-nothing out at b full =
-    (sym (lt-leb (at + 20) (length out) full), sym (put-none out at (bytePulses b) (rw (length-bytePulses b) full)))
-
--- the marker, the eight bits, the parity bit
-pub put-whole : (out : List ℕ) (at b : ℕ) {one two three : List ℕ} {parity : ℕ} → at + 20 ≤ length out
-    → one ≡ sets out at (pulses (Long ∷ Medium ∷ [])) → two ≡ sets one (at + 2) (pulses (coded (bits 8 b)))
-    → parity ≡ parityBit b → three ≡ sets two (at + 18) (pulses (coded (parity ∷ [])))
-    → (true ≡ hasRoom out at 20) × (three ≡ putAt out at (bytePulses b))
+pub byte-put : (out : List ℕ) (at b : ℕ) {one two three four : List ℕ} {parity : ℕ} → b < 256
+    → one ≡ sets out at (pulses (Long ∷ Medium ∷ [])) → two ≡ sets one (at + 2) (nibble (b % 16)) → three ≡ sets two (at + 10) (nibble (b / 16))
+    → parity ≡ parityBit b → four ≡ sets three (at + 18) (pulses (coded (parity ∷ []))) → four ≡ sets out at (bytePulses b)
 unfolding byteClasses
-put-whole out at b room e f p g =
+byte-put out at b {one} h e f f′ p g =
     let marker = Long ∷ Medium ∷ [] in
     let eight = coded (bits 8 b) in
     let ninth = coded (parityBit b ∷ []) in
     let w : byteClasses b ≡ marker ++ (eight ++ ninth) = ap (λ (cs : List Class). Long ∷ Medium ∷ cs) (coded-append (bits 8 b) (parityBit b ∷ [])) in
+    let second : at + 10 ≡ at + 2 + 8 = omega arith in
+    let last : at + 18 ≡ at + 2 + 2 * 8 = omega arith in
     let u₀ = put-begun out at at (bytePulses b) (pulses (marker ++ (eight ++ ninth))) refl (ap pulses (sym w)) in
     let u₁ = put-pulses marker (eight ++ ninth) u₀ e refl refl in
-    let u₂ = put-pulses eight ninth u₁ f (length-coded (bits 8 b) ∙ ap (λ k. 2 * k) (length-bits 8 b)) (let q : at + 18 ≡ at + 2 + 2 * 8 = omega arith in q) in
-    let u₃ = put-next u₂ (pulses ninth) [] (sym (append-nil (pulses ninth))) (rw p at g) refl in (
-      sym (le-leb (at + 20) (length out) room),
-      put-done u₃ refl ∙ put-room out at (bytePulses b) (rw (length-bytePulses b) room),
+    let u₂ = put-pulses eight ninth u₁ (bits-put one (at + 2) b h f (rw second at f′)) (length-coded (bits 8 b) ∙ ap (λ k. 2 * k) (length-bits 8 b)) last in
+    let u₃ = put-next u₂ (pulses ninth) [] (sym (append-nil (pulses ninth))) (rw p at g) refl in
+    put-done u₃ refl
+
+-- ---- Bytes: with i of them put, the rest put after them gives the whole
+
+module _ (out₀ : List ℕ) (at : ℕ) (bytes : List ℕ) where
+  abbrev pub BytesPut : List ℕ → ℕ → Type 0
+  BytesPut out i = Putting out₀ at (bytesPulses bytes) out (at + 20 * i) (bytesPulses (drop i bytes))
+
+  pub bytes-begun : BytesPut out₀ 0
+  bytes-begun = put-begun out₀ at (at + 20 * 0) _ _ (omega arith) refl
+
+  module _ {out : List ℕ} {i : ℕ} (u : BytesPut out i) where
+    rest-next : i < length bytes → bytesPulses (drop i bytes) ≡ bytePulses (getD bytes i 0) ++ bytesPulses (drop (i + 1) bytes)
+    unfolding bytesClasses
+    rest-next h = rw (drop-cons bytes i 0 h, add-one) (map-append writtenAs (byteClasses (getD bytes i 0)) (bytesClasses (drop (suc i) bytes)))
+
+    pub bytes-next : {out′ : List ℕ} → i < length bytes → out′ ≡ sets out (at + 20 * i) (bytePulses (getD bytes i 0)) → BytesPut out′ (i + 1)
+    bytes-next h e =
+        put-next u (bytePulses (getD bytes i 0)) (bytesPulses (drop (i + 1) bytes)) (rest-next h) e (rw (length-bytePulses (getD bytes i 0)) (omega arith))
+
+    pub bytes-done : length bytes ≤ i → at + 20 * length bytes ≤ length out₀
+        → (true ≡ hasRoom out₀ at (20 * length bytes)) × (out ≡ putAt out₀ at (bytesPulses bytes))
+    unfolding bytesClasses
+    bytes-done h room = (
+      sym (le-leb (at + 20 * length bytes) (length out₀) room),
+      put-done u (ap bytesPulses (drop-of-length-le bytes h)) ∙ put-room out₀ at (bytesPulses bytes) (rw (length-bytesPulses bytes) room),
     )
+
+  pub bytes-none : length out₀ < at + 20 * length bytes
+      → (false ≡ hasRoom out₀ at (20 * length bytes)) × (out₀ ≡ putAt out₀ at (bytesPulses bytes))
+  bytes-none full =
+      (sym (lt-leb (at + 20 * length bytes) (length out₀) full), sym (put-none out₀ at (bytesPulses bytes) (rw (length-bytesPulses bytes) full)))
+
+-- one byte
+pub bytes-one : (b : ℕ) → bytesPulses (b ∷ []) ≡ bytePulses b
+unfolding bytesClasses
+bytes-one b = ap pulses (append-nil (byteClasses b))

@@ -44,6 +44,14 @@ byteClasses b = Long ∷ Medium ∷ coded (bits 8 b ++ (parityBit b ∷ []))
 abbrev pub bytePulses : ℕ → List ℕ
 bytePulses b = pulses (byteClasses b)
 
+-- bytes one after the other
+unfoldable pub bytesClasses : (bytes : List ℕ) → List Class
+bytesClasses [] = []
+bytesClasses (b ∷ bs) = byteClasses b ++ bytesClasses bs
+
+abbrev pub bytesPulses : (bytes : List ℕ) → List ℕ
+bytesPulses bytes = pulses (bytesClasses bytes)
+
 -- ---- As read
 
 -- two pulses: L M is the marker, S M is 0, M S is 1

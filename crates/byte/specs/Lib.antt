@@ -1,3 +1,4 @@
 pub mod Byte
 pub mod Decoder
 pub mod Damage
+pub mod Nibbles

@@ -7,15 +7,16 @@
 use pulse::Class;
 use pulse::Cycles;
 use pulse::Thresholds;
-ghost use Prim.Native.Nat.{_+_, _≤_, _<_};
+ghost use Prim.Native.Nat.{_+_, _*_, _≤_, _<_};
 ghost use mathlib.Core.Path.{_≡_};
 ghost use mathlib.Core.List.{[], _∷_};
 ghost use lib.ListN.{length};
 ghost use lib.Seq.{sets};
 ghost use Rattle.lists.specs.Buffer.{hasRoom, putAt};
 ghost use Rattle.pulse.specs.Pulse.{classOf, classes, pulses};
-ghost use Rattle.byte.specs.Byte.{isOdd, bits, parityBit, coded, bytePulses, pairOf, isSound, bitOf, byteAt, isGood, bitsAt};
+ghost use Rattle.byte.specs.Byte.{isOdd, parityBit, coded, bytePulses, bytesPulses, pairOf, isSound, bitOf, byteAt, isGood, bitsAt};
 ghost use Rattle.byte.specs.Decoder.{empty, fed, closed, codeOf, isPair};
+ghost use Rattle.byte.specs.Nibbles.{nibble, nibbles};
 
 // What twenty pulses are.
 pub enum ByteRead {
@@ -31,7 +32,14 @@ pub const BYTE_PULSES: usize = PAIR_PULSES * PAIRS;
 
 const BITS: usize = 8;
 
-// Where the parity pair stands.
+// Half of a byte's bits: how many values they have, and how many pulses.
+const NIBBLES: usize = 16;
+
+const NIBBLE_PULSES: usize = PAIR_PULSES * BITS / 2;
+
+// Where the second half of the bits and the parity pair stand.
+const SECOND_AT: usize = PAIR_PULSES + NIBBLE_PULSES;
+
 const PARITY_AT: usize = PAIR_PULSES * (1 + BITS);
 
 // The place values of the first bit and of the parity bit among a decoder's bits, and how many values a byte has.
@@ -113,15 +121,26 @@ pub fn put_byte(out: &mut [u32], at: usize, b: u8) -> bool
     ensures room { λ r. ⌜ r ≡ hasRoom (now (out .entry)) at 20 ⌝ }
     ensures put { λ _. ⌜ now (out .exit) ≡ putAt (now (out .entry)) at (bytePulses b) ⌝ }
 {
-    if out.len() < BYTE_PULSES {
+    put_bytes(out, at, &[b])
+}
+
+// The same for bytes one after the other: without room for all of them nothing is put.
+pub fn put_bytes(out: &mut [u32], at: usize, values: &[u8]) -> bool
+    ensures room { λ r. ⌜ r ≡ hasRoom (now (out .entry)) at (20 * length (now (values .entry))) ⌝ }
+    ensures put { λ _. ⌜ now (out .exit) ≡ putAt (now (out .entry)) at (bytesPulses (now (values .entry))) ⌝ }
+{
+    if out.len() < at {
         return false;
     }
-    if out.len() - BYTE_PULSES < at {
+    if (out.len() - at) / BYTE_PULSES < values.len() {
         return false;
     }
-    put_pair(out, at, Class::Long, Class::Medium);
-    put_bits(out, at + PAIR_PULSES, b);
-    put_bit(out, at + PARITY_AT, parity_bit(b));
+    let table = NIBBLE_TABLE;
+    let mut i: usize = 0;
+    while i < values.len() {
+        put_twenty(out, at + BYTE_PULSES * i, &table, values[i]);
+        i = i + 1;
+    }
     true
 }
 
@@ -252,14 +271,52 @@ fn put_bit(out: &mut [u32], at: usize, bit: u8)
     }
 }
 
-// Puts the eight bits of a byte.
-fn put_bits(out: &mut [u32], at: usize, b: u8)
-    requires { ⌜ at + 16 ≤ length (now out) ⌝ }
-    ensures { λ _. ⌜ now (out .exit) ≡ sets (now (out .entry)) at (pulses (coded (bits 8 b))) ⌝ }
+const S: u32 = pulse::SHORT_CYCLES;
+
+const M: u32 = pulse::MEDIUM_CYCLES;
+
+// The pulses of four bits, by their number. A function that names it makes the table anew, so one makes it for all bytes.
+const NIBBLE_TABLE: [[u32; NIBBLE_PULSES]; NIBBLES] = [
+    [S, M, S, M, S, M, S, M],
+    [M, S, S, M, S, M, S, M],
+    [S, M, M, S, S, M, S, M],
+    [M, S, M, S, S, M, S, M],
+    [S, M, S, M, M, S, S, M],
+    [M, S, S, M, M, S, S, M],
+    [S, M, M, S, M, S, S, M],
+    [M, S, M, S, M, S, S, M],
+    [S, M, S, M, S, M, M, S],
+    [M, S, S, M, S, M, M, S],
+    [S, M, M, S, S, M, M, S],
+    [M, S, M, S, S, M, M, S],
+    [S, M, S, M, M, S, M, S],
+    [M, S, S, M, M, S, M, S],
+    [S, M, M, S, M, S, M, S],
+    [M, S, M, S, M, S, M, S],
+];
+
+// Puts four bits.
+fn put_nibble(out: &mut [u32], at: usize, table: &[[u32; NIBBLE_PULSES]; NIBBLES], n: usize)
+    requires room { ⌜ (n < 16) × (at + 8 ≤ length (now out)) ⌝ }
+    requires rows { ⌜ now table ≡ nibbles ⌝ }
+    ensures { λ _. ⌜ now (out .exit) ≡ sets (now (out .entry)) at (nibble n) ⌝ }
 {
     let mut i: usize = 0;
-    while i < BITS {
-        put_bit(out, at + PAIR_PULSES * i, (b >> i) % 2);
+    while i < NIBBLE_PULSES {
+        out[at + i] = table[n][i];
         i = i + 1;
     }
+}
+
+// Puts a byte.
+fn put_twenty(out: &mut [u32], at: usize, table: &[[u32; NIBBLE_PULSES]; NIBBLES], b: u8)
+    requires room { ⌜ at + 20 ≤ length (now out) ⌝ }
+    requires rows { ⌜ now table ≡ nibbles ⌝ }
+    ensures { λ _. ⌜ now (out .exit) ≡ sets (now (out .entry)) at (bytePulses b) ⌝ }
+{
+    let n = b as usize;
+    put_pair(out, at, Class::Long, Class::Medium);
+    put_nibble(out, at + PAIR_PULSES, table, n % NIBBLES);
+    put_nibble(out, at + SECOND_AT, table, n / NIBBLES);
+    put_bit(out, at + PARITY_AT, parity_bit(b));
 }

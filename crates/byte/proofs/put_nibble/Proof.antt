@@ -1,0 +1,82 @@
+-- `byte::put_nibble` meets its contract. The invariant: the pulses left of the table's row, put after those that are there, give them all.
+use Prim.Native.Nat.{_-_, _≤_}
+use native.Mathlib.Omega.{arith}
+use borrow.Author.Needs.{needs}
+use denote.Ref.{now}
+use Rattle.lists.proofs.LoopLaws.{Copied, copy-begun}
+use Rattle.byte.specs.Nibbles.{nibble}
+use Rattle.byte.proofs.NibbleLaws.{nibble-next, nibble-done}
+use Rattle.byte.proofs.put_nibble.Statement.{statement}
+use Rattle.byte.proofs.put_nibble.Tie as tie
+
+abbrev Inv-loop : tie.InvT-loop
+Inv-loop out₀ at table n i₀ out i = (i ≤ 8) × Copied out₀ at (nibble n) out i
+
+abbrev μ-loop : tie.MeasureT-loop
+μ-loop out₀ at table n i₀ out i = 8 - i
+
+loop-holds : tie.Need-loop-holds Inv-loop μ-loop
+loop-holds c = let a = c .args in (omega arith, copy-begun (now (a .out)) (a .at) (nibble (a .n)))
+
+mul-out : tie.Need-mul-out Inv-loop μ-loop
+mul-out c = search needs
+
+mul-out-2 : tie.Need-mul-out-2 Inv-loop μ-loop
+mul-out-2 c = search needs
+
+index-1-out : tie.Need-index-1-out Inv-loop μ-loop
+index-1-out c = search needs
+
+index-2-out : tie.Need-index-2-out Inv-loop μ-loop
+index-2-out c = search needs
+
+add-out : tie.Need-add-out Inv-loop μ-loop
+add-out c = search needs
+
+mul-out-3 : tie.Need-mul-out-3 Inv-loop μ-loop
+mul-out-3 c = search needs
+
+slice-write-out : tie.Need-slice-write-out Inv-loop μ-loop
+slice-write-out c = search needs
+
+add-i : tie.Need-add-i Inv-loop μ-loop
+add-i c = search needs
+
+loop-less : tie.Need-loop-less Inv-loop μ-loop
+loop-less c = search needs
+
+loop-again : tie.Need-loop-again Inv-loop μ-loop
+loop-again c =
+    let h = c .before .before in
+    let s = h .before in
+    let a = s .args in
+    (omega arith, nibble-next (now (a .out)) (a .at) (a .n) (h .loop .inv .1) (s .pre .1) (omega arith) (c .before .loop-test .taken))
+
+same-length : tie.Need-same-length Inv-loop μ-loop
+same-length c = search needs
+
+returns : tie.Need-returns Inv-loop μ-loop
+returns c =
+    let h = c .before in
+    let a = h .before .args in
+    nibble-done (now (a .out)) (a .at) (a .n) (h .loop .inv .1) (c .loop-test .left)
+
+pub put-nibble-spec : {M : Type 1} → statement M
+put-nibble-spec =
+    tie.close
+    (tie.spec
+    Inv-loop
+    μ-loop
+    loop-holds
+    mul-out
+    mul-out-2
+    index-1-out
+    index-2-out
+    add-out
+    mul-out-3
+    slice-write-out
+    add-i
+    loop-less
+    loop-again
+    same-length
+    returns)
