@@ -22,9 +22,9 @@ use Rattle.refusal.proofs.OutcomeLaws.{accepted-next}
 use Rattle.pulse.specs.declared.Class.{Class}
 use Rattle.pulse.specs.declared.Class.the-variants.{Short}
 use Rattle.pulse.specs.Pulse.{writtenAs}
-use Rattle.byte.specs.Byte.{byteClasses, twenty}
-use Rattle.byte.proofs.CodingLaws.{length-byte}
-use Rattle.block.specs.Block.{xorFrom, checksum, firstByte, countdown, copyBytes, bytesClasses, copyClasses, copyPulses, trailer, blockClasses, blockPulses, wrongSize, wrongLeader, measureBlock, writeBlock}
+use Rattle.byte.specs.Byte.{byteClasses, bytesClasses, twenty}
+use Rattle.byte.proofs.CodingLaws.{length-byte, length-bytes}
+use Rattle.block.specs.Block.{xorFrom, checksum, firstByte, countdown, copyBytes, copyClasses, copyPulses, trailer, blockClasses, blockPulses, wrongSize, wrongLeader, measureBlock, writeBlock}
 use Rattle.block.specs.Reading.{copyTwo, endOf}
 use Rattle.block.specs.Damage.{oneAt, twoAt}
 
@@ -34,11 +34,6 @@ pub bytes-append : (xs ys : List ℕ) → bytesClasses (xs ++ ys) ≡ bytesClass
 unfolding bytesClasses
 bytes-append [] ys = refl
 bytes-append (x ∷ xs) ys = rw append-assoc (ap (λ (cs : List Class). byteClasses x ++ cs) (bytes-append xs ys))
-
-pub length-bytes : (bs : List ℕ) → length (bytesClasses bs) ≡ 20 * length bs
-unfolding bytesClasses
-length-bytes [] = refl
-length-bytes (b ∷ bs) = simp (length-append, length-byte, length-bytes bs) (omega arith)
 
 -- the twenty pulses of byte i
 pub bytes-at : (bs : List ℕ) (rest : List Class) (i : ℕ) → i < length bs → twenty (bytesClasses bs ++ rest) (20 * i) ≡ byteClasses (getD bs i 0)

@@ -5,7 +5,7 @@ use native.Mathlib.Numerals.{add-one}
 use native.Mathlib.Omega.{arith}
 use mathlib.Core.Path.{_≡_, refl, sym, ap, _∙_}
 use mathlib.Core.Bool.{true, false}
-use mathlib.Core.List.{List, [], _∷_, _++_, append-nil, map-append}
+use mathlib.Core.List.{List, [], _∷_, _++_, append-nil}
 use borrow.Author.Tests.{lt-ltb, le-ltb}
 use lib.Bits.{bitXor}
 use lib.ListN.{length, drop, getD, set, replicate, length-replicate, drop-of-length-le}
@@ -20,13 +20,13 @@ use Rattle.refusal.specs.declared.Put.the-variants.{Count, Refused}
 use Rattle.refusal.specs.Refusal.{Outcome, accepted, refusalAt, told, putAnswer, Written}
 use Rattle.refusal.proofs.OutcomeLaws.{written-refused, written-accepted}
 use Rattle.pulse.specs.declared.Class.the-variants.{Short}
-use Rattle.pulse.specs.Pulse.{writtenAs, pulses}
+use Rattle.pulse.specs.Pulse.{pulses}
 use Rattle.pulse.proofs.PulseLaws.{put-pulses}
-use Rattle.byte.specs.Byte.{byteClasses, bytePulses}
-use Rattle.byte.proofs.CodingLaws.{length-bytePulses}
-use Rattle.block.specs.Block.{xorFrom, checksum, countdown, copyBytes, bytesClasses, copyClasses, copyPulses, trailer, blockClasses, blockPulses, wrongSize, wrongLeader, measureBlock, writeBlock}
+use Rattle.byte.specs.Byte.{bytesClasses, bytesPulses}
+use Rattle.byte.proofs.CodingLaws.{length-bytes, length-bytesPulses}
+use Rattle.block.specs.Block.{xorFrom, checksum, countdown, copyBytes, copyClasses, copyPulses, trailer, blockClasses, blockPulses, wrongSize, wrongLeader, measureBlock, writeBlock}
 use Rattle.block.specs.Reading.{copyTwo, endOf}
-use Rattle.block.proofs.BlockLaws.{bytes-append, length-bytes, length-countdown, length-copy, length-blockPulses, measure-accepted}
+use Rattle.block.proofs.BlockLaws.{bytes-append, length-countdown, length-copy, length-blockPulses, measure-accepted}
 
 -- ---- The checksum
 
@@ -60,53 +60,34 @@ pub trailer-put : (out : List ℕ) (at long : ℕ) → long ≡ 688 → sets (se
 unfolding trailer
 trailer-put out at long e = rw (e, add-one)
 
--- ---- Bytes
-
--- a byte put where there is room
-pub put-stored : (out : List ℕ) {out′ : List ℕ} (at b : ℕ) → at + 20 ≤ length out → out′ ≡ putAt out at (bytePulses b) → out′ ≡ sets out at (bytePulses b)
-put-stored out at b h e = e ∙ sym (put-room out at (bytePulses b) (rw (length-bytePulses b) h))
-
-module _ (out₀ : List ℕ) (at : ℕ) (bytes : List ℕ) where
-  abbrev pub BytesPut : List ℕ → ℕ → Type 0
-  BytesPut out i = Putting out₀ at (pulses (bytesClasses bytes)) out (at + 20 * i) (pulses (bytesClasses (drop i bytes)))
-
-  pub bytes-begun : BytesPut out₀ 0
-  bytes-begun = put-begun out₀ at (at + 20 * 0) _ _ (omega arith) refl
-
-  module _ {out : List ℕ} {i : ℕ} (u : BytesPut out i) where
-    rest-next : i < length bytes → pulses (bytesClasses (drop i bytes)) ≡ bytePulses (getD bytes i 0) ++ pulses (bytesClasses (drop (i + 1) bytes))
-    unfolding bytesClasses
-    rest-next h = rw (drop-cons bytes i 0 h, add-one) (map-append writtenAs (byteClasses (getD bytes i 0)) (bytesClasses (drop (suc i) bytes)))
-
-    pub bytes-next : {out′ : List ℕ} → i < length bytes → at + 20 * length bytes ≤ length out₀ → out′ ≡ putAt out (at + 20 * i) (bytePulses (getD bytes i 0))
-        → BytesPut out′ (i + 1)
-    bytes-next h room e =
-        let long = u .long in
-        put-next u (bytePulses (getD bytes i 0)) (pulses (bytesClasses (drop (i + 1) bytes))) (rest-next h) (put-stored out (at + 20 * i) (getD bytes i 0) (omega arith) e)
-        (rw (length-bytePulses (getD bytes i 0)) (omega arith))
-
-    pub bytes-done : length bytes ≤ i → out ≡ sets out₀ at (pulses (bytesClasses bytes))
-    unfolding bytesClasses
-    bytes-done h = put-done u (ap (λ bs. pulses (bytesClasses bs)) (drop-of-length-le bytes h))
-
 -- ---- A copy: countdown, payload, checksum
+
+-- bytes put where there is room
+put-stored : (out : List ℕ) {out′ : List ℕ} (at : ℕ) (bytes : List ℕ) → at + 20 * length bytes ≤ length out → out′ ≡ putAt out at (bytesPulses bytes)
+    → out′ ≡ sets out at (bytesPulses bytes)
+put-stored out at bytes h e = e ∙ sym (put-room out at (bytesPulses bytes) (rw (length-bytesPulses bytes) h))
 
 pub copy-put : (out : List ℕ) (at copy : ℕ) (payload : List ℕ) {row one two three : List ℕ} {sum : ℕ}
     → at + copyPulses (length payload) ≤ length out → row ≡ countdown copy → sum ≡ checksum payload
-    → one ≡ sets out at (pulses (bytesClasses row)) → two ≡ sets one (at + 180) (pulses (bytesClasses payload))
-    → three ≡ sets two (at + 180 + 20 * length payload) (pulses (bytesClasses (sum ∷ [])))
+    → one ≡ putAt out at (bytesPulses row) → two ≡ putAt one (at + 180) (bytesPulses payload)
+    → three ≡ putAt two (at + 180 + 20 * length payload) (bytesPulses (sum ∷ []))
     → three ≡ sets out at (pulses (copyClasses copy payload))
-unfolding copyClasses copyBytes bytesClasses
+unfolding copyClasses copyBytes
 copy-put out at copy payload {row} {one} {two} {three} {sum} room r s e f g =
     let n = length payload in
+    let nine = length-countdown copy in
     let xs = bytesClasses (countdown copy) in
     let ys = bytesClasses payload in
     let zs = bytesClasses (checksum payload ∷ []) in
     let w : copyClasses copy payload ≡ xs ++ (ys ++ zs) = rw (bytes-append, bytes-append) in
     let u₀ = put-begun out at at (pulses (copyClasses copy payload)) (pulses (xs ++ (ys ++ zs))) refl (ap pulses (sym w)) in
-    let u₁ = put-pulses xs (ys ++ zs) u₀ (rw r at e) (length-bytes (countdown copy) ∙ ap (λ k. 20 * k) (length-countdown copy)) refl in
-    let u₂ = put-pulses ys zs u₁ f (length-bytes payload) refl in
-    let u₃ = put-next u₂ (pulses zs) [] (sym (append-nil (pulses zs))) (rw s at g) refl in
+    let e′ = put-stored out at (countdown copy) (omega arith) (rw r at e) in
+    let u₁ = put-pulses xs (ys ++ zs) u₀ e′ (length-bytes (countdown copy) ∙ ap (λ k. 20 * k) nine) refl in
+    let long₁ = u₁ .long in
+    let u₂ = put-pulses ys zs u₁ (put-stored one (at + 180) payload (omega arith) f) (length-bytes payload) refl in
+    let long₂ = u₂ .long in
+    let g′ = put-stored two (at + 180 + 20 * n) (checksum payload ∷ []) (omega arith) (rw s at g) in
+    let u₃ = put-next u₂ (pulses zs) [] (sym (append-nil (pulses zs))) g′ refl in
     put-done u₃ refl
 
 -- ---- The block

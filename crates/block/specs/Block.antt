@@ -11,7 +11,7 @@ use Rattle.refusal.specs.Refusal.{Outcome, accepted, refuse, andThen}
 use Rattle.pulse.specs.declared.Class.{Class}
 use Rattle.pulse.specs.declared.Class.the-variants.{Short, Long}
 use Rattle.pulse.specs.Pulse.{pulses}
-use Rattle.byte.specs.Byte.{byteClasses}
+use Rattle.byte.specs.Byte.{bytesClasses}
 
 -- ---- The layout
 
@@ -36,11 +36,6 @@ countdown copy = tabulate (λ i. firstByte copy - i) 9 0
 -- the n + 10 bytes of a copy: countdown, payload, checksum
 unfoldable pub copyBytes : (copy : ℕ) (payload : List ℕ) → List ℕ
 copyBytes copy payload = countdown copy ++ (payload ++ (checksum payload ∷ []))
-
--- bytes one after the other
-unfoldable pub bytesClasses : (bytes : List ℕ) → List Class
-bytesClasses [] = []
-bytesClasses (b ∷ bs) = byteClasses b ++ bytesClasses bs
 
 unfoldable pub copyClasses : (copy : ℕ) (payload : List ℕ) → List Class
 copyClasses copy payload = bytesClasses (copyBytes copy payload)

@@ -20,7 +20,7 @@ ghost use Rattle.refusal.specs.Refusal.{putAnswer, refusalAt, Written};
 ghost use Rattle.pulse.specs.Pulse.{fixed, classes, pulses};
 ghost use Rattle.pulse.specs.declared.Class.the-variants.{Short};
 ghost use Rattle.byte.specs.Byte.{byteAt, isGood};
-ghost use Rattle.block.specs.Block.{checksum, bytesClasses, copyClasses, copyPulses, trailer, blockPulses, wrongSize, wrongLeader, measureBlock, writeBlock};
+ghost use Rattle.block.specs.Block.{checksum, copyClasses, copyPulses, trailer, blockPulses, wrongSize, wrongLeader, measureBlock, writeBlock};
 ghost use Rattle.block.specs.Reading.{startOf, counted, isMiscounted, placeAt, readAt, readBlock, Reads};
 ghost use Rattle.block.specs.Checks.{foundAt, flagged, Down, Checked, pickedAt};
 ghost use Rattle.block.specs.Search.{notShort, lastFrom};
@@ -170,17 +170,6 @@ fn put_shorts(out: &mut [u32], at: usize, count: usize)
     }
 }
 
-fn put_bytes(out: &mut [u32], at: usize, bytes: &[u8])
-    requires { ⌜ at + 20 * length (now bytes) ≤ length (now out) ⌝ }
-    ensures { λ _. ⌜ now (out .exit) ≡ sets (now (out .entry)) at (pulses (bytesClasses (now (bytes .entry)))) ⌝ }
-{
-    let mut i: usize = 0;
-    while i < bytes.len() {
-        byte::put_byte(out, at + byte::BYTE_PULSES * i, bytes[i]);
-        i = i + 1;
-    }
-}
-
 // Puts copy one, which is copy 0 here, or copy two, which is copy 1.
 fn put_copy(out: &mut [u32], at: usize, copy: usize, payload: &[u8], sum: u8)
     requires small { ⌜ (copy < 2) × (at + copyPulses (length (now payload)) ≤ length (now out)) ⌝ }
@@ -190,9 +179,9 @@ fn put_copy(out: &mut [u32], at: usize, copy: usize, payload: &[u8], sum: u8)
     let countdown = COUNTDOWNS[copy];
     let values = at + byte::BYTE_PULSES * COUNTDOWN_BYTES;
     let last = values + byte::BYTE_PULSES * payload.len();
-    put_bytes(out, at, &countdown);
-    put_bytes(out, values, payload);
-    put_bytes(out, last, &[sum]);
+    byte::put_bytes(out, at, &countdown);
+    byte::put_bytes(out, values, payload);
+    byte::put_bytes(out, last, &[sum]);
 }
 
 fn put_trailer(out: &mut [u32], at: usize)

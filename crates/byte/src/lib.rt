@@ -32,7 +32,7 @@ pub const BYTE_PULSES: usize = PAIR_PULSES * PAIRS;
 
 const BITS: usize = 8;
 
-// Half of a byte's bits: how many values they have, and how many pulses.
+// Of half of a byte's bits, how many values there are and how many pulses.
 const NIBBLES: usize = 16;
 
 const NIBBLE_PULSES: usize = PAIR_PULSES * BITS / 2;
@@ -271,11 +271,37 @@ fn put_bit(out: &mut [u32], at: usize, bit: u8)
     }
 }
 
+// Puts one byte.
+fn put_twenty(out: &mut [u32], at: usize, table: &[[u32; NIBBLE_PULSES]; NIBBLES], b: u8)
+    requires room { ⌜ at + 20 ≤ length (now out) ⌝ }
+    requires rows { ⌜ now table ≡ nibbles ⌝ }
+    ensures { λ _. ⌜ now (out .exit) ≡ sets (now (out .entry)) at (bytePulses b) ⌝ }
+{
+    let n = b as usize;
+    put_pair(out, at, Class::Long, Class::Medium);
+    put_nibble(out, at + PAIR_PULSES, table, n % NIBBLES);
+    put_nibble(out, at + SECOND_AT, table, n / NIBBLES);
+    put_bit(out, at + PARITY_AT, parity_bit(b));
+}
+
+// Puts four bits.
+fn put_nibble(out: &mut [u32], at: usize, table: &[[u32; NIBBLE_PULSES]; NIBBLES], n: usize)
+    requires room { ⌜ (n < 16) × (at + 8 ≤ length (now out)) ⌝ }
+    requires rows { ⌜ now table ≡ nibbles ⌝ }
+    ensures { λ _. ⌜ now (out .exit) ≡ sets (now (out .entry)) at (nibble n) ⌝ }
+{
+    let mut i: usize = 0;
+    while i < NIBBLE_PULSES {
+        out[at + i] = table[n][i];
+        i = i + 1;
+    }
+}
+
 const S: u32 = pulse::SHORT_CYCLES;
 
 const M: u32 = pulse::MEDIUM_CYCLES;
 
-// The pulses of four bits, by their number. A function that names it makes the table anew, so one makes it for all bytes.
+// The pulses of four bits, by the number that these are. The table is made anew where its name stands, so that is before a loop.
 const NIBBLE_TABLE: [[u32; NIBBLE_PULSES]; NIBBLES] = [
     [S, M, S, M, S, M, S, M],
     [M, S, S, M, S, M, S, M],
@@ -294,29 +320,3 @@ const NIBBLE_TABLE: [[u32; NIBBLE_PULSES]; NIBBLES] = [
     [S, M, M, S, M, S, M, S],
     [M, S, M, S, M, S, M, S],
 ];
-
-// Puts four bits.
-fn put_nibble(out: &mut [u32], at: usize, table: &[[u32; NIBBLE_PULSES]; NIBBLES], n: usize)
-    requires room { ⌜ (n < 16) × (at + 8 ≤ length (now out)) ⌝ }
-    requires rows { ⌜ now table ≡ nibbles ⌝ }
-    ensures { λ _. ⌜ now (out .exit) ≡ sets (now (out .entry)) at (nibble n) ⌝ }
-{
-    let mut i: usize = 0;
-    while i < NIBBLE_PULSES {
-        out[at + i] = table[n][i];
-        i = i + 1;
-    }
-}
-
-// Puts a byte.
-fn put_twenty(out: &mut [u32], at: usize, table: &[[u32; NIBBLE_PULSES]; NIBBLES], b: u8)
-    requires room { ⌜ at + 20 ≤ length (now out) ⌝ }
-    requires rows { ⌜ now table ≡ nibbles ⌝ }
-    ensures { λ _. ⌜ now (out .exit) ≡ sets (now (out .entry)) at (bytePulses b) ⌝ }
-{
-    let n = b as usize;
-    put_pair(out, at, Class::Long, Class::Medium);
-    put_nibble(out, at + PAIR_PULSES, table, n % NIBBLES);
-    put_nibble(out, at + SECOND_AT, table, n / NIBBLES);
-    put_bit(out, at + PARITY_AT, parity_bit(b));
-}

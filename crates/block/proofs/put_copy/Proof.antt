@@ -54,7 +54,7 @@ returns c =
     let s = one .before .before .before .before .before .before in
     let a = s .args in
     copy-put (now (a .out)) (a .at) (a .copy) (now (a .payload)) (s .pre .0 .1) (row-countdown (a .copy) (s .pre .0 .0)) (s .pre .1)
-    (one .put-bytes .ensures) (two .put-bytes2 .ensures) (three .put-bytes3 .ensures)
+    (one .put-bytes .ensures .1) (two .put-bytes2 .ensures .1) (three .put-bytes3 .ensures .1)
 
 pub put-copy-spec : {M : Type 1} → statement M
 put-copy-spec =
