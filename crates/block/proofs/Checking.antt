@@ -2,7 +2,6 @@
 use Prim.Native.Nat.{ℕ, zero, suc, _+_, _*_, _≤_, _<_}
 use native.Mathlib.Nat.{zero-add}
 use native.Mathlib.Numerals.{add-one}
-use native.Mathlib.Decide.{ℕ-discrete}
 use native.Mathlib.Omega.{arith}
 use mathlib.Core.Path.{_≡_, refl, sym, ap, ap₂, _∙_}
 use mathlib.Core.Bool.{Bool, true, false, cond}
@@ -46,32 +45,22 @@ xor-other a b h = ne-eqb a b (λ e. h (rw e (xor-self b)))
 
 -- ---- The flags
 
--- one place more
-module _ (t : Bool) (row : List ℕ) (i : ℕ) where
-  flag-same : i < 8 * length row → flagAt row i ≡ false → flagAt (cond t (raised row i) row) i ≡ t
-  flag-same h e = go t
-    where
-      go : (t : Bool) → flagAt (cond t (raised row i) row) i ≡ t
-      go true = raised-same row i (omega arith)
-      go false = e
+-- after place i, which is to be flagged or not
+flag-same : (t : Bool) (row : List ℕ) (i : ℕ) → i < 8 * length row → flagAt row i ≡ false → flagAt (cond t (raised row i) row) i ≡ t
+flag-same true row i h e = raised-same row i (omega arith)
+flag-same false row i h e = e
 
-  flag-other : (j : ℕ) → (i ≡ j → ⊥) → flagAt (cond t (raised row i) row) j ≡ flagAt row j
-  flag-other j h = go t
-    where
-      go : (t : Bool) → flagAt (cond t (raised row i) row) j ≡ flagAt row j
-      go true = raised-other row i j h
-      go false = refl
+flag-other : (t : Bool) (row : List ℕ) (i j : ℕ) → (i ≡ j → ⊥) → flagAt (cond t (raised row i) row) j ≡ flagAt row j
+flag-other true row i j h = raised-other row i j h
+flag-other false row i j h = refl
 
-  length-flag : length (cond t (raised row i) row) ≡ length row
-  length-flag = go t
-    where
-      go : (t : Bool) → length (cond t (raised row i) row) ≡ length row
-      go true = length-raised row i
-      go false = refl
+length-flag : (t : Bool) (row : List ℕ) (i : ℕ) → length (cond t (raised row i) row) ≡ length row
+length-flag true row i = length-raised row i
+length-flag false row i = refl
 
 -- ---- Places 0 to n
 
--- no place before i is lost, the sum, XORed with the values left, is that of all, and the places before i are flagged
+-- no place before i is lost, the sum, XORed with the values left, is that of all, and of the places before i the row tells
 pub record Checking (cs : List Class) (one two n : ℕ) (row₀ row : List ℕ) (sum i : ℕ) : Type 0 where
   pub few : i ≤ n + 1
   pub left : firstLeft (isLost cs one two) (n + 1) i ≡ firstFrom (isLost cs one two) (n + 1) 0
@@ -151,14 +140,14 @@ module _ (t : Thresholds) (strip : List ℕ) (one two n : ℕ) where
   abbrev cs : List Class
   cs = classes t strip
 
-  -- the value of place i, from two bytes of which one is good
+  -- the value of a place that is not lost
   picked : (at : ℕ) (a b : ByteRead) → byteAt cs (one + at) ≡ a → byteAt cs (two + at) ≡ b → isBad (repaired a b) ≡ false
       → bitsAt t strip (cond (isBad a) two one + at) ≡ valueOrZero (repaired a b)
   picked at (Good v) b p q h = good-bits t strip (one + at) p
   picked at Bad (Good v) p q h = good-bits t strip (two + at) q
   picked at Bad Bad p q h = absurd (let z : _≡_ {A = ℕ} 0 1 = cc in omega arith)
 
-  -- where no place is lost and the places are flagged, what is picked are the values
+  -- where no place is lost, what the row picks are the values
   pub picked-values : (row : List ℕ) → firstFrom (isLost cs one two) (n + 1) 0 ≡ none → Flags cs one n row
       → tabulate (pickedAt t strip one two row) n 0 ≡ valuesAt cs one two n
   unfolding placeAt
