@@ -4,6 +4,7 @@ use native.Mathlib.Nat.{zero-add}
 use native.Mathlib.Numerals.{add-one}
 use native.Mathlib.Omega.{arith}
 use mathlib.Core.Path.{_≡_, refl, sym, ap, ap₂, _∙_}
+use mathlib.Core.Logic.{_⊎_, inl, inr}
 use mathlib.Core.Bool.{Bool, true, false, cond}
 use mathlib.Core.List.{List, [], _∷_, _++_}
 use mathlib.Core.Option.{none}
@@ -57,6 +58,46 @@ flag-other false row i j h = refl
 length-flag : (t : Bool) (row : List ℕ) (i : ℕ) → length (cond t (raised row i) row) ≡ length row
 length-flag true row i = length-raised row i
 length-flag false row i = refl
+
+-- ---- One place: copy one's byte and, where that is bad, copy two's
+
+module _ (cs : List Class) (one two i : ℕ) (row₀ : List ℕ) where
+  abbrev at : ℕ
+  at = 20 * (9 + i)
+
+  -- the byte to be read is copy one's; or it is copy two's, copy one's is bad and the flag is raised
+  abbrev pub Turn : (row : List ℕ) (from : ℕ) → Type 0
+  Turn row from = ((from ≡ one + at) × (row ≡ row₀)) ⊎ ((from ≡ two + at) × ((byteAt cs (one + at) ≡ Bad) × (row ≡ raised row₀ i)))
+
+  abbrev Placed : (r : ByteRead) (row : List ℕ) → Type 0
+  Placed r row = (r ≡ placeAt cs one two i) × (row ≡ flagged cs one i row₀)
+
+  module _ {row : List ℕ} {from : ℕ} (u : Turn row from) where
+    pub turn-long : length row ≡ length row₀
+    turn-long = elim u [
+      | inl h ↦ ap length (h .1)
+      | inr h ↦ ap length (h .1 .1) ∙ length-raised row₀ i
+    ]
+
+    pub turn-good : {v : ℕ} → byteAt cs from ≡ Good v → Placed (Good v) row
+    unfolding placeAt
+    turn-good e = elim u [
+      | inl h ↦ (let g = ap (byteAt cs) (sym (h .0)) ∙ e in (rw g, rw g (h .1)))
+      | inr h ↦ (let g = ap (byteAt cs) (sym (h .0)) ∙ e in (rw (h .1 .0) (sym g), rw (h .1 .0) (h .1 .1)))
+    ]
+
+    pub turn-lost : one < two → from ≡ two + at → byteAt cs from ≡ Bad → Placed Bad row
+    unfolding placeAt
+    turn-lost apart last e = elim u [
+      | inl h ↦ absurd (let q = h .0 in omega arith)
+      | inr h ↦ (let g = ap (byteAt cs) (sym (h .0)) ∙ e in (rw (h .1 .0) (sym g), rw (h .1 .0) (h .1 .1)))
+    ]
+
+    pub turn-next : {row′ : List ℕ} → (from ≡ two + at → ⊥) → byteAt cs from ≡ Bad → row′ ≡ raised row i → Turn row′ (two + at)
+    turn-next first e f = elim u [
+      | inl h ↦ inr (refl, (ap (byteAt cs) (sym (h .0)) ∙ e, f ∙ ap (λ r. raised r i) (h .1)))
+      | inr h ↦ absurd (first (h .0))
+    ]
 
 -- ---- Places 0 to n
 

@@ -214,16 +214,6 @@ fn refused(reason: Reason, place: usize) -> BlockAnswer
     BlockAnswer::Refused(refusal::at(reason, place))
 }
 
-// Whether a place of the strip holds a good byte of this value.
-fn holds(t: Thresholds, strip: &[u32], at: usize, value: u8) -> bool
-    ensures { λ r. ⌜ r ≡ isGood value (byteAt (classes t (now (strip .entry))) at) ⌝ }
-{
-    match byte::read_byte(t, strip, at) {
-        ByteRead::Good(b) => b == value,
-        ByteRead::Bad => false,
-    }
-}
-
 // How many pulses the strip has from a place on.
 fn pulses_from(strip: &[u32], at: usize) -> usize
     ensures { λ r. ⌜ r ≡ length (now (strip .entry)) - at ⌝ }
@@ -283,7 +273,7 @@ fn find_start(t: Thresholds, strip: &[u32], from: usize) -> Found
             };
             // one turn: a block that can be left by its label
             'look: loop {
-                if holds(t, strip, end, SYNC_BYTE) {
+                if byte::matches(t, strip, end, SYNC_BYTE) {
                     break 'search Found::At(end);
                 }
                 break 'look;
@@ -324,10 +314,10 @@ fn is_counted(t: Thresholds, strip: &[u32], one: usize, two: usize, i: usize) ->
     ensures { λ r. ⌜ r ≡ counted (classes t (now (strip .entry))) one two i ⌝ }
 {
     let at = byte::BYTE_PULSES * i;
-    if holds(t, strip, one + at, COUNTDOWNS[0][i]) {
+    if byte::matches(t, strip, one + at, COUNTDOWNS[0][i]) {
         return true;
     }
-    holds(t, strip, two + at, COUNTDOWNS[1][i])
+    byte::matches(t, strip, two + at, COUNTDOWNS[1][i])
 }
 
 fn first_miscounted(t: Thresholds, strip: &[u32], one: usize, two: usize) -> Found
@@ -344,7 +334,8 @@ fn first_miscounted(t: Thresholds, strip: &[u32], one: usize, two: usize) -> Fou
     Found::Nothing
 }
 
-// Rule 4 at place i after the countdown: copy one's byte where it is good, else copy two's, and then the place's flag is raised.
+// Rule 4 at place i after the countdown: copy one's byte where it is good, else copy two's, and then the place's flag is raised. A byte is
+// read at one place of the code, in two turns at the most: the compiler then puts it into the loop over the places.
 fn read_place(
     t: Thresholds,
     strip: &[u32],
@@ -353,15 +344,22 @@ fn read_place(
     i: usize,
     flags: &mut [u8],
 ) -> ByteRead
-    requires { ⌜ (one ≤ two) × (two + 20 * (9 + i) ≤ length (now strip)) ⌝ }
+    requires { ⌜ (one < two) × (two + 20 * (9 + i) ≤ length (now strip)) ⌝ }
     ensures { λ r. ⌜ (r ≡ placeAt (classes t (now (strip .entry))) one two i) × (now (flags .exit) ≡ flagged (classes t (now (strip .entry))) one i (now (flags .entry))) ⌝ }
 {
     let at = byte::BYTE_PULSES * (COUNTDOWN_BYTES + i);
-    let ByteRead::Good(value) = byte::read_byte(t, strip, one + at) else {
-        lists::raise_flag(flags, i);
-        return byte::read_byte(t, strip, two + at);
-    };
-    ByteRead::Good(value)
+    let mut from = one + at;
+    'copies: loop {
+        let ByteRead::Good(value) = byte::read_byte(t, strip, from) else {
+            if from == two + at {
+                return ByteRead::Bad;
+            }
+            lists::raise_flag(flags, i);
+            from = two + at;
+            continue 'copies;
+        };
+        return ByteRead::Good(value);
+    }
 }
 
 // Rules 4 and 5: whether a place is lost, and whether the checksum holds for the repaired values. It does exactly where these and the
@@ -374,7 +372,7 @@ fn check_values(
     n: usize,
     flags: &mut [u8],
 ) -> Check
-    requires { ⌜ (one ≤ two) × (two + copyPulses n ≤ length (now strip)) × (n < 8 * length (now flags)) × Down (now flags) ⌝ }
+    requires { ⌜ (one < two) × (two + copyPulses n ≤ length (now strip)) × (n < 8 * length (now flags)) × Down (now flags) ⌝ }
     ensures { λ r. ⌜ Checked (classes t (now (strip .entry))) one two n r (now (flags .exit)) ⌝ }
 {
     let mut sum: u8 = 0;

@@ -71,8 +71,8 @@ enum-told-2 c = search needs
 look-holds : tie.Need-look-holds Inv-look μ-look Inv-search μ-search
 look-holds c = search needs
 
-holds-requires : tie.Need-holds-requires Inv-look μ-look Inv-search μ-search
-holds-requires c κs = search needs
+matches-requires : tie.Need-matches-requires Inv-look μ-look Inv-search μ-search
+matches-requires c κs = search needs
 
 add-at-2 : tie.Need-add-at-2 Inv-look μ-look Inv-search μ-search
 add-at-2 c =
@@ -91,7 +91,7 @@ search-again-2 c =
     let n = c .before .before .before .before in
     let f = n .before .before in
     let h = f .before .before .before .before .before .before in
-    other-byte (h .search .inv) _ (sym (f .first-not-short .ensures) ∙ ap foundAt (n .end .given .1)) (sym (c .before .holds .ensures) ∙ c .if2 .left)
+    other-byte (h .search .inv) _ (sym (f .first-not-short .ensures) ∙ ap foundAt (n .end .given .1)) (sym (c .before .matches .ensures) ∙ c .if2 .left)
 
 returns : tie.Need-returns Inv-look μ-look Inv-search μ-search
 returns c =
@@ -116,7 +116,7 @@ returns-3 c =
     (l .before .before .before .search .inv) _
     (sym (f .first-not-short .ensures) ∙ ap foundAt (n .end .given .1))
     (sym (l .last-not-short .ensures) ∙ ap foundAt (m .enum-told .given .1))
-    (sym (c .before .holds .ensures) ∙ c .if2 .taken)
+    (sym (c .before .matches .ensures) ∙ c .if2 .taken)
 
 pub find-start-spec : {M : Type 1} → statement M
 find-start-spec =
@@ -139,7 +139,7 @@ find-start-spec =
     enum-known-end
     enum-told-2
     look-holds
-    holds-requires
+    matches-requires
     add-at-2
     search-less-2
     search-again-2

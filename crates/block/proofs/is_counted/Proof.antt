@@ -10,53 +10,53 @@ use Rattle.block.proofs.is_counted.Tie as tie
 mul-at : tie.Need-mul-at
 mul-at c = search needs
 
-add-holds : tie.Need-add-holds
-add-holds c = search needs
+add-matches : tie.Need-add-matches
+add-matches c = search needs
 
-index-1-holds : tie.Need-index-1-holds
-index-1-holds c = search needs
+index-1-matches : tie.Need-index-1-matches
+index-1-matches c = search needs
 
-index-2-holds : tie.Need-index-2-holds
-index-2-holds c = search needs
+index-2-matches : tie.Need-index-2-matches
+index-2-matches c = search needs
 
-holds-requires : tie.Need-holds-requires
-holds-requires c κs = search needs
+matches-requires : tie.Need-matches-requires
+matches-requires c κs = search needs
 
 returns : tie.Need-returns
 returns c =
     let a = c .before .before .before .before .args in
-    counted-one _ _ _ _ _ (row-at 0 (lit< tt) (a .i) (omega arith)) (sym (c .before .holds .ensures) ∙ c .if1 .taken)
+    counted-one _ _ _ _ _ (row-at 0 (lit< tt) (a .i) (omega arith)) (sym (c .before .matches .ensures) ∙ c .if1 .taken)
 
-add-holds-2 : tie.Need-add-holds-2
-add-holds-2 c = search needs
+add-matches-2 : tie.Need-add-matches-2
+add-matches-2 c = search needs
 
-index-1-holds-2 : tie.Need-index-1-holds-2
-index-1-holds-2 c = search needs
+index-1-matches-2 : tie.Need-index-1-matches-2
+index-1-matches-2 c = search needs
 
-index-2-holds-2 : tie.Need-index-2-holds-2
-index-2-holds-2 c = search needs
+index-2-matches-2 : tie.Need-index-2-matches-2
+index-2-matches-2 c = search needs
 
-holds-requires-2 : tie.Need-holds-requires-2
-holds-requires-2 c κs = search needs
+matches-requires-2 : tie.Need-matches-requires-2
+matches-requires-2 c κs = search needs
 
 returns-2 : tie.Need-returns-2
 returns-2 c =
     let r = c .before .before .before in
     let a = r .before .before .before .args in
-    counted-two _ _ _ _ _ _ (row-at 0 (lit< tt) (a .i) (omega arith)) (row-at 1 (lit< tt) (a .i) (omega arith)) (sym (r .holds .ensures) ∙ c .before .before .if1 .left) (c .holds2 .ensures)
+    counted-two _ _ _ _ _ _ (row-at 0 (lit< tt) (a .i) (omega arith)) (row-at 1 (lit< tt) (a .i) (omega arith)) (sym (r .matches .ensures) ∙ c .before .before .if1 .left) (c .matches2 .ensures)
 
 pub is-counted-spec : {M : Type 1} → statement M
 is-counted-spec =
     tie.close
     (tie.spec
     mul-at
-    add-holds
-    index-1-holds
-    index-2-holds
-    holds-requires
+    add-matches
+    index-1-matches
+    index-2-matches
+    matches-requires
     returns
-    add-holds-2
-    index-1-holds-2
-    index-2-holds-2
-    holds-requires-2
+    add-matches-2
+    index-1-matches-2
+    index-2-matches-2
+    matches-requires-2
     returns-2)
