@@ -120,10 +120,10 @@ tape_tap tape_read_tap(const uint8_t *file, size_t len, uint32_t *out, size_t ro
 /* Bytes of stack that a call needs, its return address with it, read off the machine code of this archive (tests/stack); memcpy and memset
  * of the C library come on top. */
 enum {
-    TAPE_STACK_WRITE_BLOCK = 304,
-    TAPE_STACK_READ_BLOCK = 448,
-    TAPE_STACK_WRITE_FILE = 736,
-    TAPE_STACK_READ_FILE = 736,
+    TAPE_STACK_WRITE_BLOCK = 752,
+    TAPE_STACK_READ_BLOCK = 1296,
+    TAPE_STACK_WRITE_FILE = 1184,
+    TAPE_STACK_READ_FILE = 1600,
     TAPE_STACK_PACK_HEADER = 240,
     TAPE_STACK_UNPACK_HEADER = 16,
     TAPE_STACK_SHOWN_NAME = 16,
