@@ -1,5 +1,5 @@
 -- Rules 4 and 5, place after place: what the loop over the values knows, and that the flags it leaves tell the values.
-use Prim.Native.Nat.{ℕ, zero, suc, _+_, _*_, _≤_, _<_}
+use Prim.Native.Nat.{ℕ, _+_, _*_, _≤_, _<_}
 use native.Mathlib.Nat.{zero-add}
 use native.Mathlib.Numerals.{add-one}
 use native.Mathlib.Omega.{arith}
@@ -23,13 +23,14 @@ use Rattle.pulse.specs.declared.Class.{Class}
 use Rattle.pulse.specs.Pulse.{classes}
 use Rattle.byte.specs.declared.ByteRead.{ByteRead}
 use Rattle.byte.specs.declared.ByteRead.the-variants.{Good, Bad}
-use Rattle.byte.specs.Byte.{byteAt, isBad, bitsAt}
+use Rattle.byte.specs.Byte.{byteAt, isBad}
+use Rattle.byte.specs.Decoder.{bitsAt}
 use Rattle.byte.proofs.ValueLaws.{good-bits}
 use Rattle.block.specs.declared.Check.{Check}
 use Rattle.block.specs.declared.Check.the-variants.{Sound, LostAt, WrongSum}
 use Rattle.block.specs.Block.{xorFrom, checksum}
 use Rattle.block.specs.Reading.{repaired, placeAt, isLost, valueOrZero, valueAt, valuesAt, sumHolds}
-use Rattle.block.specs.Checks.{checkOf, badInOne, flagged, Down, Flags, Checked, pickedAt}
+use Rattle.block.specs.Checks.{checkOf, badInOne, flagged, Down, Flags, Checked, soundAt, pickedAt}
 
 -- ---- The sum: with the checksum XORed too it is 0 exactly where the checksum holds
 
@@ -195,3 +196,8 @@ module _ (t : Thresholds) (strip : List ℕ) (one two n : ℕ) where
   picked-values row found flags =
       tabulate-same (pickedAt t strip one two row) (valueAt cs one two) n 0
       (λ i a b. rw (flags i (omega arith)) (picked (20 * (9 + i)) _ _ refl refl (none-first (isLost cs one two) (n + 1) 0 found i (omega arith) (omega arith))))
+
+  -- where no flag is raised, they are those of copy one
+  pub sound-picked : (row : List ℕ) → Down row → tabulate (soundAt t strip (one + 180)) n 0 ≡ tabulate (pickedAt t strip one two row) n 0
+  sound-picked row down =
+      tabulate-same (soundAt t strip (one + 180)) (pickedAt t strip one two row) n 0 (λ i a b. rw (down i) (ap (bitsAt t strip) (omega arith)))

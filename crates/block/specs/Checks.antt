@@ -8,7 +8,8 @@ use Rattle.lists.specs.Places.{firstFrom}
 use Rattle.lists.specs.Flags.{flagAt, raised}
 use Rattle.pulse.specs.declared.Thresholds.{Thresholds}
 use Rattle.pulse.specs.declared.Class.{Class}
-use Rattle.byte.specs.Byte.{byteAt, isBad, bitsAt}
+use Rattle.byte.specs.Byte.{byteAt, isBad}
+use Rattle.byte.specs.Decoder.{bitsAt}
 use Rattle.block.specs.declared.Found.{Found}
 use Rattle.block.specs.declared.Found.the-variants.{At, Nothing}
 use Rattle.block.specs.declared.Check.{Check}
@@ -47,6 +48,10 @@ Flags cs one n row = (i : ℕ) → i < n → flagAt row i ≡ badInOne cs one i
 pub record Checked (cs : List Class) (one two n : ℕ) (check : Check) (row : List ℕ) : Type 0 where
   pub says : check ≡ checkOf (firstFrom (isLost cs one two) (n + 1) 0) (sumHolds cs one two n)
   pub flags : firstFrom (isLost cs one two) (n + 1) 0 ≡ none → Flags cs one n row
+
+-- the bits of byte i after an index
+abbrev pub soundAt : (t : Thresholds) (strip : List ℕ) (at i : ℕ) → ℕ
+soundAt t strip at i = bitsAt t strip (at + 20 * i)
 
 -- the bits of place i in the copy that its flag tells
 abbrev pub pickedAt : (t : Thresholds) (strip : List ℕ) (one two : ℕ) (row : List ℕ) (i : ℕ) → ℕ

@@ -13,16 +13,17 @@ use refusal::Reason;
 use refusal::Refusal;
 ghost use Prim.Native.Nat.{_+_, _-_, _*_, _≤_, _<_};
 ghost use mathlib.Core.Path.{_≡_};
+ghost use mathlib.Core.Bool.{true};
 ghost use lib.ListN.{length, replicate};
 ghost use lib.Seq.{sets};
 ghost use Rattle.lists.specs.Places.{firstFrom, tabulate};
 ghost use Rattle.refusal.specs.Refusal.{putAnswer, refusalAt, Written};
 ghost use Rattle.pulse.specs.Pulse.{fixed, classes, pulses};
 ghost use Rattle.pulse.specs.declared.Class.the-variants.{Short};
-ghost use Rattle.byte.specs.Byte.{byteAt, isGood};
+ghost use Rattle.byte.specs.Decoder.{bitsAt};
 ghost use Rattle.block.specs.Block.{checksum, copyClasses, copyPulses, trailer, blockPulses, wrongSize, wrongLeader, measureBlock, writeBlock};
 ghost use Rattle.block.specs.Reading.{startOf, counted, isMiscounted, placeAt, readAt, readBlock, Reads};
-ghost use Rattle.block.specs.Checks.{foundAt, flagged, Down, Checked, pickedAt};
+ghost use Rattle.block.specs.Checks.{foundAt, flagged, Down, Checked, soundAt, pickedAt};
 ghost use Rattle.block.specs.Search.{notShort, lastFrom};
 
 // The largest payload.
@@ -195,7 +196,7 @@ fn put_trailer(out: &mut [u32], at: usize)
 
 // ---- Reading
 
-// What a search finds: the first place that passes, or none.
+// What is looked for in a strip: its place, or none.
 enum Found {
     At(usize),
     Nothing,
@@ -283,7 +284,8 @@ fn find_start(t: Thresholds, strip: &[u32], from: usize) -> Found
     }
 }
 
-// Rules 2 to 5, for a start that was found. Nothing is put before all of them hold; where copy two's byte counts is kept in a row of flags.
+// Rules 2 to 5, for a start that was found. Nothing is put before all of them hold. A row of flags
+// keeps the places whose value is copy two's.
 fn read_at(t: Thresholds, strip: &[u32], start: usize, n: usize, out: &mut [u8]) -> BlockAnswer
     requires { ⌜ (start ≤ length (now strip)) × (n ≤ 8192) × (n ≤ length (now out)) ⌝ }
     ensures { λ r. ⌜ Reads (readAt (classes t (now (strip .entry))) start n) (now (out .entry)) r (now (out .exit)) ⌝ }
@@ -334,8 +336,8 @@ fn first_miscounted(t: Thresholds, strip: &[u32], one: usize, two: usize) -> Fou
     Found::Nothing
 }
 
-// Rule 4 at place i after the countdown: copy one's byte where it is good, else copy two's, and then the place's flag is raised. A byte is
-// read at one place of the code, in two turns at the most: the compiler then puts it into the loop over the places.
+// Rule 4 at place i after the countdown: copy one's byte where it is good, else copy two's, and then the place's flag is raised. There is
+// one call of `read_byte`, for two turns at the most, so that the compiler inlines it.
 fn read_place(
     t: Thresholds,
     strip: &[u32],
@@ -404,11 +406,56 @@ fn put_values(
     requires { ⌜ (one ≤ two) × (two + copyPulses n ≤ length (now strip)) × (n ≤ length (now out)) ⌝ }
     ensures { λ _. ⌜ now (out .exit) ≡ sets (now (out .entry)) 0 (tabulate (pickedAt t (now (strip .entry)) one two (now (flags .entry))) n 0) ⌝ }
 {
+    if none_raised(flags) {
+        put_sound(t, strip, one + byte::BYTE_PULSES * COUNTDOWN_BYTES, n, out);
+        return;
+    }
     let mut i: usize = 0;
     while i < n {
         let copy = if lists::flag(flags, i) { two } else { one };
-        let value = byte::value_at(t, strip, copy + byte::BYTE_PULSES * (COUNTDOWN_BYTES + i));
+        let value = bits_at(t, strip, copy + byte::BYTE_PULSES * (COUNTDOWN_BYTES + i));
         out[i] = value;
         i = i + 1;
     }
+}
+
+// Whether no flag is raised. All bytes are looked at, so that the compiler can take many at a time.
+fn none_raised(flags: &[u8]) -> bool
+    ensures { λ r. ⌜ (r ≡ true → Down (now (flags .entry))) ⌝ }
+{
+    let mut any: u8 = 0;
+    let mut i: usize = 0;
+    while i < flags.len() {
+        any = any | flags[i];
+        i = i + 1;
+    }
+    any == 0
+}
+
+// The bits of n bytes of one copy, from an index on.
+fn put_sound(t: Thresholds, strip: &[u32], at: usize, n: usize, out: &mut [u8])
+    requires { ⌜ (at + 20 * n ≤ length (now strip)) × (n ≤ length (now out)) ⌝ }
+    ensures { λ _. ⌜ now (out .exit) ≡ sets (now (out .entry)) 0 (tabulate (soundAt t (now (strip .entry)) at) n 0) ⌝ }
+{
+    let mut i: usize = 0;
+    while i < n {
+        let value = bits_at(t, strip, at + byte::BYTE_PULSES * i);
+        out[i] = value;
+        i = i + 1;
+    }
+}
+
+// The value of a byte that is known to be good, by the first pulse of each bit's pair: 1 where that is not below the medium threshold.
+fn bits_at(t: Thresholds, strip: &[u32], at: usize) -> u8
+    requires { ⌜ at + 20 ≤ length (now strip) ⌝ }
+    ensures { λ r. ⌜ r ≡ bitsAt t (now (strip .entry)) at ⌝ }
+{
+    let mut value: u8 = 0;
+    let mut i: usize = 0;
+    while i < byte::BITS {
+        let j = at + byte::PAIR_PULSES * (1 + i);
+        value = value | ((t.medium <= strip[j]) as u8) << i;
+        i = i + 1;
+    }
+    value
 }

@@ -9,17 +9,16 @@ use borrow.Author.Tests.{eq-eqb, ne-eqb}
 use lib.Count.{ones}
 use lib.Dec.{eqb, lit<, lit≤}
 use lib.ListN.{length, getD}
-use Rattle.lists.specs.Places.{firstFrom, tabulate}
+use Rattle.lists.specs.Places.{tabulate}
 use Rattle.lists.proofs.PlaceLaws.{first-none, tabulate-same}
 use Rattle.lists.proofs.Table.{every, every-at}
 use Rattle.pulse.specs.declared.Class.{Class}
 use Rattle.pulse.specs.declared.Class.the-variants.{Short, Medium, Long, Noise}
 use Rattle.pulse.specs.Pulse.{same}
-use Rattle.byte.specs.declared.Pair.{Pair}
 use Rattle.byte.specs.declared.ByteRead.{ByteRead}
 use Rattle.byte.specs.declared.ByteRead.the-variants.{Good, Bad}
-use Rattle.byte.specs.Byte.{isOdd, bits, parityBit, coded, byteClasses, pairOf, isSound, bitOf, pairAt, nthPair, nthBit, wrongPair, valueOf, checked, readByte, twenty, byteAt, isGood}
-use Rattle.byte.specs.Decoder.{codeOf, isPair, fits}
+use Rattle.byte.specs.Byte.{isOdd, bits, parityBit, coded, byteClasses, pairOf, bitOf, pairAt, nthPair, nthBit, wrongPair, valueOf, checked, readByte, twenty, byteAt, isGood}
+use Rattle.byte.specs.Decoder.{codeOf, fits}
 use Rattle.byte.proofs.ByteLaws.{read-written, byteAt-good, byteAt-within}
 use Rattle.byte.proofs.PairLaws.{pair-twenty}
 

@@ -1,24 +1,26 @@
 -- Laws of the bits by their pairs' first pulses: those of a good byte are its value.
-use Prim.Native.Nat.{ℕ, zero, suc, _+_, _*_, _%_, _^_, _≤_, _<_}
+use Prim.Native.Nat.{ℕ, _+_, _*_, _%_, _^_, _≤_, _<_}
 use native.Mathlib.Numerals.{add-one}
 use native.Mathlib.Omega.{arith}
-use mathlib.Core.Path.{_≡_, refl, sym, ap, ap₂, _∙_}
+use mathlib.Core.Path.{_≡_, refl, sym, ap, _∙_}
 use mathlib.Core.Bool.{Bool, true, false, cond, not, _||_}
-use mathlib.Core.List.{List, _∷_}
+use mathlib.Core.List.{List}
 use mir.Val.{boolByte}
-use borrow.Author.Tests.{le-leb, lt-leb, ne-eqb}
+use borrow.Author.Tests.{ne-eqb}
 use lib.Bits.{bitOr}
 use lib.Dec.{leb, ltb}
 use lib.ListN.{length, getD, length-map}
 use lib.Pow.{shl-exact}
 use Rattle.lists.specs.Places.{tabulate}
 use Rattle.lists.proofs.BoolLaws.{leb-not}
+use Rattle.lists.proofs.PlaceLaws.{tabulate-same}
 use Rattle.pulse.specs.declared.Thresholds.{Thresholds}
 use Rattle.pulse.specs.declared.Class.{Class}
 use Rattle.pulse.specs.declared.Class.the-variants.{Short, Medium, Long, Noise}
 use Rattle.pulse.specs.Pulse.{classOf, classes, same}
 use Rattle.byte.specs.declared.ByteRead.the-variants.{Good}
-use Rattle.byte.specs.Byte.{pairOf, isSound, bitOf, nthPair, nthBit, valueOf, twenty, byteAt, leadBit, bitsAt}
+use Rattle.byte.specs.Byte.{pairOf, isSound, bitOf, nthPair, nthBit, valueOf, twenty, byteAt}
+use Rattle.byte.specs.Decoder.{leadBit, bitsAt}
 use Rattle.byte.proofs.CodingLaws.{value-or}
 use Rattle.byte.proofs.PairLaws.{flag-lt, flag-number, pair-there, pair-twenty}
 use Rattle.byte.proofs.ByteLaws.{good-parts, good-sound, byteAt-within}
@@ -41,12 +43,6 @@ lead-sound t x b i h e =
     rw (leb-not (t .medium) x)
     (lead-tests (ltb x (t .short)) (ltb x (t .medium)) (ltb x (t .long)) (ltb x (t .noise)) b (rw (ne-eqb i 0 (λ q. omega arith)) at e))
 
-tabulate-same : (f g : ℕ → ℕ) (count at : ℕ) → ((i : ℕ) → at ≤ i → i < at + count → f i ≡ g i) → tabulate f count at ≡ tabulate g count at
-unfolding tabulate
-tabulate-same f g zero at h = refl
-tabulate-same f g (suc count) at h =
-    ap₂ (λ (x : ℕ) (xs : List ℕ). x ∷ xs) (h at (omega arith) (omega arith)) (tabulate-same f g count (suc at) (λ i a b. h i (omega arith) (omega arith)))
-
 module _ (t : Thresholds) (strip : List ℕ) (at : ℕ) where
   lead-bit : (i : ℕ) → 1 ≤ i → i < 10 → at + 20 ≤ length strip → isSound i (nthPair (twenty (classes t strip) at) i) ≡ true
       → leadBit t strip at i ≡ nthBit (twenty (classes t strip) at) i
@@ -63,15 +59,9 @@ module _ (t : Thresholds) (strip : List ℕ) (at : ℕ) where
       let cs = classes t strip in
       let ys = twenty cs at in
       let w : at + 20 ≤ length strip = omega (arith, byteAt-within cs at v e, length-map strip (classOf t)) in
-      rw (le-leb (at + 20) (length strip) w)
-      (ap valueOf (tabulate-same (leadBit t strip at) (nthBit ys) 8 1 (λ i a b. lead-bit i a (omega arith) w (good-sound ys v e i (omega arith))))
-      ∙ good-parts ys v e .1)
+      ap valueOf (tabulate-same (leadBit t strip at) (nthBit ys) 8 1 (λ i a b. lead-bit i a (omega arith) w (good-sound ys v e i (omega arith)))) ∙ good-parts ys v e .1
 
   -- ---- The eight bits, one after the other
-
-  pub bits-none : length strip < at + 20 → 0 ≡ bitsAt t strip at
-  unfolding bitsAt
-  bits-none h = rw (lt-leb (at + 20) (length strip) h)
 
   abbrev pub BitsRead : ℕ → ℕ → Type 0
   BitsRead value i = value ≡ valueOf (tabulate (leadBit t strip at) i 1)
@@ -87,6 +77,6 @@ module _ (t : Thresholds) (strip : List ℕ) (at : ℕ) where
       let small : (j : ℕ) → f j < 2 = λ j. flag-lt (leb (t .medium) (getD strip (at + 2 * j) 0)) in
       rw (add-one, flag-number (leb (t .medium) (getD strip (at + 2 * (1 + i)) 0)), shl-exact {a = f (1 + i)} 1 i 8 (small (1 + i)) (omega arith), e) (value-or f small i 1)
 
-  pub bits-done : {value i : ℕ} → at + 20 ≤ length strip → i ≡ 8 → BitsRead value i → value ≡ bitsAt t strip at
+  pub bits-done : {value i : ℕ} → i ≡ 8 → BitsRead value i → value ≡ bitsAt t strip at
   unfolding bitsAt
-  bits-done w n e = rw (le-leb (at + 20) (length strip) w) (rw n at e)
+  bits-done n e = rw n at e

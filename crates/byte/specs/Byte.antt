@@ -3,11 +3,10 @@ use Prim.Native.Nat.{ℕ, zero, suc, _+_, _*_, _/_, _%_}
 use mathlib.Core.Bool.{Bool, true, false, cond, not, _&&_, _||_}
 use mathlib.Core.List.{List, [], _∷_, _++_}
 use mathlib.Core.Option.{Option, none, some}
-use lib.Dec.{eqb, leb}
-use lib.ListN.{length, take, drop, getD}
+use lib.Dec.{eqb}
+use lib.ListN.{take, drop, getD}
 use lib.Count.{ones}
 use Rattle.lists.specs.Places.{firstFrom, tabulate}
-use Rattle.pulse.specs.declared.Thresholds.{Thresholds}
 use Rattle.pulse.specs.declared.Class.{Class}
 use Rattle.pulse.specs.declared.Class.the-variants.{Short, Medium, Long, Noise}
 use Rattle.pulse.specs.Pulse.{pulses, same}
@@ -117,12 +116,3 @@ isBad (Good v) = false
 isBad Bad = true
 
 -- ---- As read from a byte that is known to be good
-
--- the bit that pair i of the pulses from a place on is by its first pulse alone: 1 where that is not below the medium threshold
-abbrev pub leadBit : (t : Thresholds) (strip : List ℕ) (at i : ℕ) → ℕ
-leadBit t strip at i = cond (leb (t .medium) (getD strip (at + 2 * i) 0)) 1 0
-
--- The number with the eight bits of the twenty pulses from a place on, each by its pair's first pulse; 0 where there are not
--- twenty. Of a good byte it is the value.
-unfoldable pub bitsAt : (t : Thresholds) (strip : List ℕ) (at : ℕ) → ℕ
-bitsAt t strip at = cond (leb (at + 20) (length strip)) (valueOf (tabulate (leadBit t strip at) 8 1)) 0

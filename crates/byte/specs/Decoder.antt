@@ -1,15 +1,20 @@
--- The decoder that `read_byte` works with: a byte read pair by pair. No promise to a caller cites this; that ten pairs through it
--- come to `readByte` is shown in proofs/Decoding.antt.
+-- How bytes are read: pair by pair, looked for, or known to be good. No promise to a caller cites this.
 use Prim.Native.Nat.{ℕ, _+_, _*_, _/_, _%_, _^_}
 use mathlib.Core.Bool.{Bool, true, cond, _&&_}
 use lib.Bits.{bitOr}
 use lib.Count.{ones}
-use lib.Dec.{eqb}
-use Rattle.byte.specs.Byte.{isOdd, parityBit, isSound, bitOf}
+use mathlib.Core.List.{List}
+use lib.Dec.{eqb, leb}
+use lib.ListN.{getD}
+use Rattle.lists.specs.Places.{tabulate}
+use Rattle.pulse.specs.declared.Thresholds.{Thresholds}
+use Rattle.byte.specs.Byte.{isOdd, parityBit, isSound, bitOf, valueOf}
 use Rattle.byte.specs.declared.Pair.{Pair}
 use Rattle.byte.specs.declared.Decoder.{Decoder}
 use Rattle.byte.specs.declared.ByteRead.{ByteRead}
 use Rattle.byte.specs.declared.ByteRead.the-variants.{Good, Bad}
+
+-- ---- A byte read pair by pair; that ten pairs come to `readByte` is shown in proofs/Decoding.antt
 
 -- before the first pair
 abbrev pub empty : Decoder
@@ -36,3 +41,13 @@ isPair i bit p = cond (eqb i 0) (p .marker) (cond (eqb bit 0) (p .zero) (p .one)
 -- pair i is as in this byte
 abbrev pub fits : (value i : ℕ) → Pair → Bool
 fits v i p = isPair i (codeOf v / 2 ^ i % 2) p
+
+-- ---- A byte that is known to be good: its value by the first pulses of its pairs
+
+-- the bit of pair i of the pulses from a place on: 1 where its first pulse is not below the medium threshold
+abbrev pub leadBit : (t : Thresholds) (strip : List ℕ) (at i : ℕ) → ℕ
+leadBit t strip at i = cond (leb (t .medium) (getD strip (at + 2 * i) 0)) 1 0
+
+-- the number with the bits of pairs 1 to 8
+unfoldable pub bitsAt : (t : Thresholds) (strip : List ℕ) (at : ℕ) → ℕ
+bitsAt t strip at = valueOf (tabulate (leadBit t strip at) 8 1)

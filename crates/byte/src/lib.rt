@@ -14,7 +14,7 @@ ghost use lib.ListN.{length};
 ghost use lib.Seq.{sets};
 ghost use Rattle.lists.specs.Buffer.{hasRoom, putAt};
 ghost use Rattle.pulse.specs.Pulse.{classOf, classes, pulses};
-ghost use Rattle.byte.specs.Byte.{isOdd, parityBit, coded, bytePulses, bytesPulses, pairOf, isSound, bitOf, byteAt, isGood, bitsAt};
+ghost use Rattle.byte.specs.Byte.{isOdd, parityBit, coded, bytePulses, bytesPulses, pairOf, isSound, bitOf, byteAt, isGood};
 ghost use Rattle.byte.specs.Decoder.{empty, fed, closed, codeOf, isPair};
 ghost use Rattle.byte.specs.Nibbles.{nibble, nibbles};
 
@@ -24,13 +24,13 @@ pub enum ByteRead {
     Bad,
 }
 
-const PAIR_PULSES: usize = 2;
+pub const PAIR_PULSES: usize = 2;
 
 const PAIRS: usize = 10;
 
 pub const BYTE_PULSES: usize = PAIR_PULSES * PAIRS;
 
-const BITS: usize = 8;
+pub const BITS: usize = 8;
 
 // Of half of a byte's bits, how many values there are and how many pulses.
 const NIBBLES: usize = 16;
@@ -69,27 +69,6 @@ pub fn read_byte(t: Thresholds, strip: &[u32], at: usize) -> ByteRead
     d.close()
 }
 
-// The number whose bits are the eight bit pairs of the twenty pulses at an index, each by its first pulse alone: 1 where
-// that is not below the medium threshold. 0 where there are fewer than twenty.
-pub fn value_at(t: Thresholds, strip: &[u32], at: usize) -> u8
-    ensures { λ r. ⌜ r ≡ bitsAt t (now (strip .entry)) at ⌝ }
-{
-    if strip.len() < BYTE_PULSES {
-        return 0;
-    }
-    if strip.len() - BYTE_PULSES < at {
-        return 0;
-    }
-    let mut value: u8 = 0;
-    let mut i: usize = 0;
-    while i < BITS {
-        let j = at + PAIR_PULSES * (1 + i);
-        value = value | ((t.medium <= strip[j]) as u8) << i;
-        i = i + 1;
-    }
-    value
-}
-
 // Whether the twenty pulses at an index are a good byte of this value. The look ends at the first pair that is not as in that byte.
 pub fn matches(t: Thresholds, strip: &[u32], at: usize, value: u8) -> bool
     ensures { λ r. ⌜ r ≡ isGood value (byteAt (classes t (now (strip .entry))) at) ⌝ }
@@ -101,17 +80,17 @@ pub fn matches(t: Thresholds, strip: &[u32], at: usize, value: u8) -> bool
         return false;
     }
     let code = code_of(value);
-    let mut i: usize = 0;
-    while i < PAIRS {
-        let j = at + PAIR_PULSES * i;
+    let mut k: usize = 0;
+    while k < PAIRS {
+        let j = at + PAIR_PULSES * k;
         if !is_pair(
-            i,
-            (code >> i) % 2,
+            k,
+            (code >> k) % 2,
             pair_of(t, Cycles(strip[j]), Cycles(strip[j + 1])),
         ) {
             return false;
         }
-        i = i + 1;
+        k = k + 1;
     }
     true
 }
@@ -144,7 +123,7 @@ pub fn put_bytes(out: &mut [u32], at: usize, values: &[u8]) -> bool
     true
 }
 
-// What two pulses are: L M is the marker, S M a 0, M S a 1. As flags, these are computed without a branch.
+// What two pulses are: L M is the marker, S M a 0, M S a 1. As truth values, these are computed without a branch.
 struct Pair {
     marker: bool,
     zero: bool,
@@ -301,7 +280,7 @@ const S: u32 = pulse::SHORT_CYCLES;
 
 const M: u32 = pulse::MEDIUM_CYCLES;
 
-// The pulses of four bits, by the number that these are. The table is made anew where its name stands, so that is before a loop.
+// The pulses of four bits, by the number that these are. Each use of the name makes the table anew, so it is used before a loop.
 const NIBBLE_TABLE: [[u32; NIBBLE_PULSES]; NIBBLES] = [
     [S, M, S, M, S, M, S, M],
     [M, S, S, M, S, M, S, M],

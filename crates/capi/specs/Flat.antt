@@ -1,7 +1,7 @@
 -- Outcomes as the plain structs of the C interface.
 use Prim.Native.Nat.{ℕ}
 use mathlib.Core.Path.{_≡_}
-use mathlib.Core.List.{List, []}
+use mathlib.Core.List.{List}
 use lib.ListN.{length}
 use Rattle.lists.specs.Buffer.{putAt}
 use Rattle.refusal.specs.Refusal.{Outcome, refused, accepted, mapped, puts}

@@ -4,7 +4,6 @@
 // In every answer `refusal` is 0 where the call accepted, and then `block` and `place` are 0 too; else it is the number of the refusal, and
 // all numbers after `place` are 0.
 use block::BlockAnswer;
-use block::Extent;
 use file::FileAnswer;
 use file::Loaded;
 use header::Fields;
@@ -12,7 +11,6 @@ use header::HeaderAnswer;
 use refusal::Put;
 use refusal::Refusal;
 use tap::TapAnswer;
-use tap::TapInfo;
 ghost use mathlib.Core.Path.{_≡_};
 ghost use lib.ListN.{length};
 ghost use Rattle.refusal.specs.Refusal.{numberOf, putAnswer, mapped};

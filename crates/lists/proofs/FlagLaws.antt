@@ -7,7 +7,7 @@ use mathlib.Core.Path.{_≡_, refl, ap, _∙_}
 use mathlib.Core.Bool.{true, false}
 use mathlib.Core.List.{List}
 use borrow.Author.Tests.{eq-eqb}
-use lib.Bits.{bitOr, or-shr, or-mod, or-zero-r}
+use lib.Bits.{bitOr, or-shr, or-mod, or-zero-r, or-add-and, and-le-l, and-le-r}
 use lib.Dec.{eqb, lit<}
 use lib.ListN.{length, getD, set, replicate, length-set, List·getD-eq-default}
 use lib.Pow.{pow-pos, pow-add, pow-lt, shl-shr, shl-exact}
@@ -94,3 +94,16 @@ flag-down n j = rw (getD-zeros n (j / 8), zero-div (2 ^ (j % 8)))
 pub flag-past : (row : List ℕ) (i : ℕ) → length row ≤ i / 8 → flagAt row i ≡ false
 unfolding flagAt
 flag-past row i h = rw (List·getD-eq-default row 0 h, zero-div (2 ^ (i % 8)))
+
+-- ---- No flag at all
+
+pub or-none : (a b : ℕ) → bitOr a b ≡ 0 → (a ≡ 0) × (b ≡ 0)
+or-none a b e = (omega (arith, or-add-and a b, and-le-l a b, and-le-r a b), omega (arith, or-add-and a b, and-le-l a b, and-le-r a b))
+
+-- bytes of 0 have no flag
+pub bytes-down : (row : List ℕ) → ((j : ℕ) → j < length row → getD row j 0 ≡ 0) → (i : ℕ) → flagAt row i ≡ false
+unfolding flagAt
+bytes-down row h i = elim (decLt (i / 8) (length row)) [
+  | yes l ↦ rw (h (i / 8) l, zero-div (2 ^ (i % 8)))
+  | no l ↦ flag-past row i (omega arith)
+]

@@ -2,7 +2,7 @@
 -- is copy two's.
 use Prim.Native.Nat.{_+_, _-_, _*_, _≤_}
 use native.Mathlib.Omega.{arith}
-use mathlib.Core.Path.{_≡_, refl, sym, _∙_}
+use mathlib.Core.Path.{refl, sym, _∙_}
 use mathlib.Core.Logic.{inl}
 use borrow.Author.Needs.{needs}
 use denote.Ref.{now}

@@ -2,7 +2,7 @@ use borrow.Author.Needs.{needs}
 -- `byte::matches` meets its contract. The invariant: the pairs passed are as in the byte.
 use Prim.Native.Nat.{ℕ, _+_, _-_, _*_, _≤_, _<_}
 use native.Mathlib.Omega.{arith}
-use mathlib.Core.Path.{_≡_, sym, ap, _∙_}
+use mathlib.Core.Path.{_≡_, sym, _∙_}
 use mathlib.Core.Bool.{true}
 use borrow.Author.Count.{below-more}
 use borrow.Author.Tests.{not-true, not-false}
@@ -101,14 +101,14 @@ returns-3 c =
     let q = c .before in
     let h = q .before .before .before .before .before in
     let a = h .before .before .before .before .before .args in
-    let i = h .loop .i in
+    let i = h .loop .k in
     let e = q .before .pair-of .ensures ∙ pair-there (a .t) (now (a .strip)) (a .at + 2 * i) (omega arith) in
     missed (classes (a .t) (now (a .strip))) (a .at) (a .value) i (omega arith)
     (rw (← e, ← h .before .code-of .ensures) (sym (q .is-pair .ensures) ∙ not-true _ (c .if3 .taken)))
 
 -- src/lib.rt:102:13
-add-i : tie.Need-add-i Inv-loop μ-loop
-add-i c = search needs
+add-k : tie.Need-add-k Inv-loop μ-loop
+add-k c = search needs
 
 -- src/lib.rt:97:5
 loop-less : tie.Need-loop-less Inv-loop μ-loop
@@ -120,16 +120,16 @@ loop-again c =
     let q = c .before in
     let h = q .before .before .before .before .before in
     let a = h .before .before .before .before .before .args in
-    let i = h .loop .i in
+    let i = h .loop .k in
     let e = q .before .pair-of .ensures ∙ pair-there (a .t) (now (a .strip)) (a .at + 2 * i) (omega arith) in
-    (omega arith, below-more _ i (h .loop .inv .1) (rw (← e, ← h .before .code-of .ensures) (sym (q .is-pair .ensures) ∙ not-false _ (c .if3 .left))))
+    (omega arith, below-more _ i (h .loop .knv .1) (rw (← e, ← h .before .code-of .ensures) (sym (q .is-pair .ensures) ∙ not-false _ (c .if3 .left))))
 
 -- src/lib.rt:86:1
 returns-4 : tie.Need-returns-4 Inv-loop μ-loop
 returns-4 c =
     let h = c .before in
     let a = h .before .before .before .before .before .args in
-    matched (classes (a .t) (now (a .strip))) (a .at) (a .value) (omega arith) (omega arith) (h .loop .inv .1)
+    matched (classes (a .t) (now (a .strip))) (a .at) (a .value) (omega arith) (omega arith) (h .loop .knv .1)
 
 pub matches-spec : {M : Type 1} → statement M
 matches-spec =
@@ -154,7 +154,7 @@ matches-spec =
     pair-of-requires
     is-pair-requires
     returns-3
-    add-i
+    add-k
     loop-less
     loop-again
     returns-4)

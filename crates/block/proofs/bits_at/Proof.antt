@@ -1,11 +1,11 @@
--- `byte::value_at` meets its contract. The invariant: the value is the number with the first i bits.
+-- `block::bits_at` meets its contract. The invariant: the value is the number with the first i bits.
 use Prim.Native.Nat.{_-_, _≤_}
 use native.Mathlib.Omega.{arith}
 use borrow.Author.Needs.{needs}
 use denote.Ref.{now}
-use Rattle.byte.proofs.ValueLaws.{BitsRead, bits-none, bits-begun, bits-next, bits-done}
-use Rattle.byte.proofs.value_at.Statement.{statement}
-use Rattle.byte.proofs.value_at.Tie as tie
+use Rattle.byte.proofs.ValueLaws.{BitsRead, bits-begun, bits-next, bits-done}
+use Rattle.block.proofs.bits_at.Statement.{statement}
+use Rattle.block.proofs.bits_at.Tie as tie
 
 abbrev Inv-loop : tie.InvT-loop
 Inv-loop t strip at value₀ i₀ value i = (i ≤ 8) × BitsRead t strip at value i
@@ -13,17 +13,8 @@ Inv-loop t strip at value₀ i₀ value i = (i ≤ 8) × BitsRead t strip at val
 abbrev μ-loop : tie.MeasureT-loop
 μ-loop t strip at value₀ i₀ value i = 8 - i
 
-returns : tie.Need-returns Inv-loop μ-loop
-returns c = let a = c .before .args in bits-none (a .t) (now (a .strip)) (a .at) (omega arith)
-
-sub-if2 : tie.Need-sub-if2 Inv-loop μ-loop
-sub-if2 c = search needs
-
-returns-2 : tie.Need-returns-2 Inv-loop μ-loop
-returns-2 c = let a = c .before .before .args in bits-none (a .t) (now (a .strip)) (a .at) (omega arith)
-
 loop-holds : tie.Need-loop-holds Inv-loop μ-loop
-loop-holds c = let a = c .before .before .args in (omega arith, bits-begun (a .t) (now (a .strip)) (a .at))
+loop-holds c = let a = c .args in (omega arith, bits-begun (a .t) (now (a .strip)) (a .at))
 
 add-j : tie.Need-add-j Inv-loop μ-loop
 add-j c = search needs
@@ -58,24 +49,21 @@ loop-less c = search needs
 loop-again : tie.Need-loop-again Inv-loop μ-loop
 loop-again c =
     let h = c .before .before .before in
-    let a = h .before .before .before .args in
+    let a = h .before .args in
     (omega arith, bits-next (a .t) (now (a .strip)) (a .at) (omega arith) (h .loop .inv .1))
 
-returns-3 : tie.Need-returns-3 Inv-loop μ-loop
-returns-3 c =
+returns : tie.Need-returns Inv-loop μ-loop
+returns c =
     let h = c .before in
-    let a = h .before .before .before .args in
-    bits-done (a .t) (now (a .strip)) (a .at) (omega arith) (omega arith) (h .loop .inv .1)
+    let a = h .before .args in
+    bits-done (a .t) (now (a .strip)) (a .at) (omega arith) (h .loop .inv .1)
 
-pub value-at-spec : {M : Type 1} → statement M
-value-at-spec =
+pub bits-at-spec : {M : Type 1} → statement M
+bits-at-spec =
     tie.close
     (tie.spec
     Inv-loop
     μ-loop
-    returns
-    sub-if2
-    returns-2
     loop-holds
     add-j
     mul-j
@@ -88,4 +76,4 @@ value-at-spec =
     add-i
     loop-less
     loop-again
-    returns-3)
+    returns)
