@@ -122,14 +122,14 @@ loop-again c =
     let a = h .before .before .before .before .before .args in
     let i = h .loop .k in
     let e = q .before .pair-of .ensures ∙ pair-there (a .t) (now (a .strip)) (a .at + 2 * i) (omega arith) in
-    (omega arith, below-more _ i (h .loop .knv .1) (rw (← e, ← h .before .code-of .ensures) (sym (q .is-pair .ensures) ∙ not-false _ (c .if3 .left))))
+    (omega arith, below-more _ i (h .loop .inv .1) (rw (← e, ← h .before .code-of .ensures) (sym (q .is-pair .ensures) ∙ not-false _ (c .if3 .left))))
 
 -- src/lib.rt:86:1
 returns-4 : tie.Need-returns-4 Inv-loop μ-loop
 returns-4 c =
     let h = c .before in
     let a = h .before .before .before .before .before .args in
-    matched (classes (a .t) (now (a .strip))) (a .at) (a .value) (omega arith) (omega arith) (h .loop .knv .1)
+    matched (classes (a .t) (now (a .strip))) (a .at) (a .value) (omega arith) (omega arith) (h .loop .inv .1)
 
 pub matches-spec : {M : Type 1} → statement M
 matches-spec =
