@@ -3,11 +3,11 @@ use Prim.Native.Nat.{ℕ, zero, suc, _+_, _-_, _*_, _≤_, _<_}
 use native.Mathlib.Nat.{add-zero, zero-add}
 use native.Mathlib.Omega.{arith}
 use mathlib.Core.Path.{_≡_, refl, sym, ap, _∙_}
-use mathlib.Core.Bool.{Bool, true, false, cond}
-use mathlib.Core.List.{List, [], _∷_}
+use mathlib.Core.Bool.{true}
+use mathlib.Core.List.{List, [], _∷_, _++_, map}
 use borrow.Author.Tests.{eq-eqb, ne-eqb, le-ltb}
-use lib.ListN.{length, drop, getD, length-drop, drop-of-length-le}
-use lib.Seq.{drop-drop, drop-cons, getD-drop}
+use lib.ListN.{length, drop, getD, length-drop, length-map, drop-of-length-le, take-append-drop}
+use lib.Seq.{drop-drop, drop-cons, getD-drop, length-take-le}
 use Rattle.lists.specs.Places.{part}
 use Rattle.lists.specs.Text.{fromLow}
 use Rattle.refusal.specs.declared.Reason.the-variants.{CutLongForm}
@@ -16,90 +16,127 @@ use Rattle.refusal.proofs.OutcomeLaws.{then-accepted, mapped-accepted}
 use Rattle.tap.specs.Reading.{tapVersion, durationsIn, Tap, tapWith, tapOf, fitting, readTap}
 use Rattle.pulse.specs.Units.{unitCycles}
 use Rattle.tap.specs.Tap.{longUnit}
-use Rattle.tap.specs.Forms.{isLong, formWidth, durationAt}
+use Rattle.tap.specs.Forms.{noZeros, byteCycles, longCycles, from, Cut}
+use Rattle.tap.proofs.Groups.{noZeros-next}
 
--- ---- One form in front
+-- ---- Bytes that are a form each
 
-next : (v at : ℕ) (bs : List ℕ) → 0 < length bs → formWidth v (getD bs 0 0) ≤ length bs
-    → durationsIn v at bs ≡ mapped (λ ds. durationAt v bs 0 ∷ ds) (durationsIn v (at + formWidth v (getD bs 0 0)) (drop (formWidth v (getD bs 0 0)) bs))
-unfolding durationsIn formWidth durationAt
-next v at [] z w = absurd (omega arith)
-next v at (suc b ∷ bs) z w = rw (ne-eqb (suc b) 0 (omega arith))
-next zero at (zero ∷ bs) z w = refl
-next (suc v) at (zero ∷ []) z w = absurd (omega (arith, rw (ne-eqb (suc v) 0 (omega arith)) at w))
-next (suc v) at (zero ∷ a ∷ []) z w = absurd (omega (arith, rw (ne-eqb (suc v) 0 (omega arith)) at w))
-next (suc v) at (zero ∷ a ∷ b ∷ []) z w = absurd (omega (arith, rw (ne-eqb (suc v) 0 (omega arith)) at w))
-next (suc v) at (zero ∷ a ∷ b ∷ c ∷ bs) z w = rw (ne-eqb (suc v) 0 (omega arith))
+module _ (b : ℕ) where
+  pub cycles-zero : b ≡ 0 → byteCycles b ≡ 2048
+  unfolding byteCycles
+  cycles-zero z = rw (eq-eqb b 0 z)
 
-cut : (v at : ℕ) (bs : List ℕ) → 0 < length bs → length bs < formWidth v (getD bs 0 0) → durationsIn v at bs ≡ refuse CutLongForm at
-unfolding durationsIn formWidth
-cut v at [] z w = absurd (omega arith)
-cut v at (suc b ∷ bs) z w = absurd (omega (arith, rw (ne-eqb (suc b) 0 (omega arith)) at w))
-cut zero at (zero ∷ bs) z w = absurd (omega arith)
-cut (suc v) at (zero ∷ []) z w = refl
-cut (suc v) at (zero ∷ a ∷ []) z w = refl
-cut (suc v) at (zero ∷ a ∷ b ∷ []) z w = refl
-cut (suc v) at (zero ∷ a ∷ b ∷ c ∷ bs) z w = absurd (omega (arith, rw (ne-eqb (suc v) 0 (omega arith)) at w))
+  pub cycles-units : (b ≡ 0 → ⊥) → byteCycles b ≡ b * unitCycles
+  unfolding byteCycles
+  cycles-units n = rw (ne-eqb b 0 n)
 
--- ---- The form at a place
+-- version 0: every byte
+pub durations-old : (at : ℕ) (bs : List ℕ) → durationsIn 0 at bs ≡ accepted (map byteCycles bs)
+unfolding durationsIn
+durations-old at [] = refl
+durations-old at (suc b ∷ bs) = rw (durations-old (at + 1) bs, cycles-units (suc b) (λ z. omega arith))
+durations-old at (zero ∷ bs) = rw (durations-old (at + 1) bs, cycles-zero 0 refl)
 
-module _ (v : ℕ) (bytes : List ℕ) where
-  -- what the data come to from a place on
-  abbrev pub from : ℕ → Outcome (List ℕ)
-  from i = durationsIn v i (drop i bytes)
+-- any other is read as version 1
+pub durations-new : (v : ℕ) → (v ≡ 0 → ⊥) → (at : ℕ) (bs : List ℕ) → durationsIn v at bs ≡ durationsIn 1 at bs
+unfolding durationsIn
+durations-new zero n at bs = absurd (n refl)
+durations-new (suc v) n at [] = refl
+durations-new (suc v) n at (suc b ∷ bs) = rw (durations-new (suc v) n (at + 1) bs)
+durations-new (suc v) n at (zero ∷ []) = refl
+durations-new (suc v) n at (zero ∷ a ∷ []) = refl
+durations-new (suc v) n at (zero ∷ a ∷ b ∷ []) = refl
+durations-new (suc v) n at (zero ∷ a ∷ b ∷ c ∷ bs) = rw (durations-new (suc v) n (at + 4) bs)
 
-  abbrev pub widthAt : ℕ → ℕ
-  widthAt i = formWidth v (getD bytes i 0)
+-- ---- Version 1: what stands in front
 
-  first : (i : ℕ) → getD (drop i bytes) 0 0 ≡ getD bytes i 0
-  first i = getD-drop i bytes 0 0 ∙ ap (λ k. getD bytes k 0) (add-zero i)
+mapped-append : (xs ys : List ℕ) (o : Outcome (List ℕ)) → mapped (λ ds. xs ++ ds) (mapped (λ ds. ys ++ ds) o) ≡ mapped (λ ds. xs ++ (ys ++ ds)) o
+mapped-append xs ys (refused number block place) = refl
+mapped-append xs ys (accepted ds) = refl
 
-  shifted : (i : ℕ) → durationAt v (drop i bytes) 0 ≡ durationAt v bytes i
-  unfolding durationAt
-  shifted i = rw (first i, zero-add, drop-drop)
+mapped-none : (o : Outcome (List ℕ)) → o ≡ mapped (λ ds. [] ++ ds) o
+mapped-none (refused number block place) = refl
+mapped-none (accepted ds) = refl
 
-  pub form-next : (i : ℕ) → i < length bytes → i + widthAt i ≤ length bytes
-      → from i ≡ mapped (λ ds. durationAt v bytes i ∷ ds) (from (i + widthAt i))
-  form-next i h w =
+byte : (at : ℕ) (bs : List ℕ) → 0 < length bs → (getD bs 0 0 ≡ 0 → ⊥)
+    → durationsIn 1 at bs ≡ mapped (λ ds. (getD bs 0 0 * unitCycles ∷ []) ++ ds) (durationsIn 1 (at + 1) (drop 1 bs))
+unfolding durationsIn
+byte at [] h n = absurd (omega arith)
+byte at (zero ∷ bs) h n = absurd (n refl)
+byte at (suc b ∷ bs) h n = refl
+
+long : (at : ℕ) (bs : List ℕ) → 4 ≤ length bs → getD bs 0 0 ≡ 0
+    → durationsIn 1 at bs ≡ mapped (λ ds. (fromLow (part bs 1 3) * longUnit ∷ []) ++ ds) (durationsIn 1 (at + 4) (drop 4 bs))
+unfolding durationsIn
+long at [] h z = absurd (omega arith)
+long at (suc b ∷ bs) h z = absurd (omega arith)
+long at (zero ∷ []) h z = absurd (omega arith)
+long at (zero ∷ a ∷ []) h z = absurd (omega arith)
+long at (zero ∷ a ∷ b ∷ []) h z = absurd (omega arith)
+long at (zero ∷ a ∷ b ∷ c ∷ bs) h z = refl
+
+cut : (at : ℕ) (bs : List ℕ) → 0 < length bs → length bs < 4 → getD bs 0 0 ≡ 0 → durationsIn 1 at bs ≡ refuse CutLongForm at
+unfolding durationsIn
+cut at [] h w z = absurd (omega arith)
+cut at (suc b ∷ bs) h w z = absurd (omega arith)
+cut at (zero ∷ []) h w z = refl
+cut at (zero ∷ a ∷ []) h w z = refl
+cut at (zero ∷ a ∷ b ∷ []) h w z = refl
+cut at (zero ∷ a ∷ b ∷ c ∷ bs) h w z = absurd (omega arith)
+
+run : (at : ℕ) (bs rest : List ℕ) → noZeros bs ≡ true → durationsIn 1 at (bs ++ rest) ≡ mapped (λ ds. map byteCycles bs ++ ds) (durationsIn 1 (at + length bs) rest)
+run at [] rest e = rw add-zero (mapped-none (durationsIn 1 at rest))
+run at (b ∷ bs) rest e =
+    let n = noZeros-next b bs e in
+    let l : at + 1 + length bs ≡ at + suc (length bs) = omega arith in
+    byte at (b ∷ bs ++ rest) (omega arith) (n .0)
+    ∙ ap (mapped (λ ds. b * unitCycles ∷ ds)) (run (at + 1) bs rest (n .1))
+    ∙ mapped-append (b * unitCycles ∷ []) (map byteCycles bs) (durationsIn 1 (at + 1 + length bs) rest)
+    ∙ rw (l, cycles-units b (n .0))
+
+-- ---- Version 1: what stands at a place
+
+-- these durations stand from place i to place i′
+pub record Step (bytes : List ℕ) (i i′ : ℕ) (xs : List ℕ) : Type 0 where
+  pub within : i′ ≤ length bytes
+  pub few : i + length xs ≤ i′
+  pub durations : from bytes i ≡ mapped (λ ds. xs ++ ds) (from bytes i′)
+
+module _ (bytes : List ℕ) (i : ℕ) where
+  first : getD (drop i bytes) 0 0 ≡ getD bytes i 0
+  first = getD-drop i bytes 0 0 ∙ ap (λ k. getD bytes k 0) (add-zero i)
+
+  pub byte-next : i < length bytes → (getD bytes i 0 ≡ 0 → ⊥) → Step bytes i (i + 1) (getD bytes i 0 * unitCycles ∷ [])
+  byte-next h n =
       let l = length-drop i bytes in
-      let e = next v i (drop i bytes) (omega arith) (rw (first i) (omega arith)) in
-      rw (first i, shifted i, drop-drop) at e
+      let e = byte i (drop i bytes) (omega arith) (λ z. n (sym first ∙ z)) in
+      record { within = omega arith; few = omega arith; durations = rw (first, drop-drop) at e }
 
-  pub form-cut : (i : ℕ) → i < length bytes → length bytes - i < widthAt i → from i ≡ refuse CutLongForm i
-  form-cut i h w = let l = length-drop i bytes in cut v i (drop i bytes) (omega arith) (rw (first i) (omega arith))
+  pub long-next : getD bytes i 0 ≡ 0 → i + 4 ≤ length bytes → Step bytes i (i + 4) (longCycles bytes i ∷ [])
+  long-next z w =
+      let l = length-drop i bytes in
+      let e = long i (drop i bytes) (omega arith) (first ∙ z) in
+      record { within = w; few = omega arith; durations = rw (drop-drop 1 i bytes, drop-drop 4 i bytes) at e }
 
-  pub form-over : (i : ℕ) → length bytes ≤ i → from i ≡ accepted []
+  -- bytes that are a form each, to place `end`
+  module _ (end : ℕ) (h : i ≤ end) (w : end ≤ length bytes) where
+    pub length-run : length (map byteCycles (part bytes i (end - i))) ≡ end - i
+    length-run = length-map (part bytes i (end - i)) byteCycles ∙ length-take-le (end - i) (drop i bytes) (rw length-drop (omega arith))
+
+    pub run-next : noZeros (part bytes i (end - i)) ≡ true → Step bytes i end (map byteCycles (part bytes i (end - i)))
+    run-next e =
+        let l = length-drop i bytes in
+        let p = length-take-le (end - i) (drop i bytes) (omega arith) in
+        let q : i + (end - i) ≡ end = omega arith in
+        let r = run i (part bytes i (end - i)) (drop (end - i) (drop i bytes)) e in
+        record { within = w; few = rw length-run (omega arith); durations = rw (take-append-drop (end - i) (drop i bytes), p, drop-drop, q) at r }
+
+  pub form-cut : i < length bytes → Cut bytes i → from bytes i ≡ refuse CutLongForm i
+  form-cut h w = let l = length-drop i bytes in cut i (drop i bytes) (omega arith) (omega (arith, w .short)) (first ∙ w .zero)
+
+  pub form-over : length bytes ≤ i → from bytes i ≡ accepted []
   unfolding durationsIn
-  form-over i h = rw (drop-of-length-le bytes {i = i} h)
-
--- ---- formWidth, durationAt
-
-pub width-pos : (v b : ℕ) → 1 ≤ formWidth v b
-unfolding formWidth
-width-pos v b = go (isLong v b)
-  where
-    go : (t : Bool) → 1 ≤ cond t 4 1
-    go true = omega arith
-    go false = omega arith
-
-module _ (v : ℕ) (bytes : List ℕ) (i : ℕ) where
-  pub duration-byte : (getD bytes i 0 ≡ 0 → ⊥) → durationAt v bytes i ≡ getD bytes i 0 * unitCycles
-  unfolding durationAt
-  duration-byte n = rw (ne-eqb (getD bytes i 0) 0 n)
-
-  module _ (z : getD bytes i 0 ≡ 0) where
-    pub duration-zero : v ≡ 0 → durationAt v bytes i ≡ 2048
-    unfolding durationAt
-    duration-zero e = rw (eq-eqb (getD bytes i 0) 0 z, eq-eqb v 0 e)
-
-    module _ (n : v ≡ 0 → ⊥) where
-      pub duration-long : durationAt v bytes i ≡ fromLow (part bytes (i + 1) 3) * longUnit
-      unfolding durationAt
-      duration-long = rw (eq-eqb (getD bytes i 0) 0 z, ne-eqb v 0 n)
-
-      pub width-long : formWidth v (getD bytes i 0) ≡ 4
-      unfolding formWidth
-      width-long = rw (eq-eqb (getD bytes i 0) 0 z, ne-eqb v 0 n)
+  form-over h = rw (drop-of-length-le bytes {i = i} h)
 
 -- ---- fromLow
 

@@ -1,16 +1,16 @@
 -- Reading the data: what the loops keep, and what the calls come to.
 use Prim.Native.Nat.{ℕ, _+_, _-_, _≤_, _<_}
 use native.Mathlib.Nat.{zero-add}
-use native.Mathlib.Decide.{decLe}
+use native.Mathlib.Decide.{ℕ-discrete, decLe}
 use native.Mathlib.Omega.{arith}
-use mathlib.Core.Path.{_≡_, refl, sym, ap, _∙_}
-use mathlib.Core.List.{List, _∷_}
+use mathlib.Core.Path.{_≡_, refl, sym, ap, ap₂, _∙_}
+use mathlib.Core.Bool.{true}
+use mathlib.Core.List.{List, _++_}
 use borrow.Author.Tests.{lt-ltb, le-ltb}
-use lib.ListN.{length, drop, set, length-drop}
-use lib.Seq.{sets, take-all}
+use lib.ListN.{length, drop, getD, length-append, length-drop}
+use lib.Seq.{sets, length-sets, take-all}
 use Rattle.lists.specs.Places.{part}
-use Rattle.lists.proofs.BufferLaws.{put-room}
-use Rattle.lists.proofs.LoopLaws.{Putting, put-one, put-done}
+use Rattle.lists.proofs.BufferLaws.{put-room, sets-append}
 use Rattle.refusal.specs.declared.Reason.the-variants.{NoRoom, WrongTapHeader, CutLongForm}
 use Rattle.refusal.specs.declared.Refusal.{Refusal}
 use Rattle.refusal.specs.declared.Put.{Put}
@@ -22,97 +22,98 @@ use Rattle.tap.specs.declared.TapAnswer.the-variants.{Accepted, Refused}
 use Rattle.tap.specs.declared.HeaderRead.{HeaderRead}
 use Rattle.tap.specs.declared.HeaderRead.the-variants.{Version, Refused as WrongHeader}
 use Rattle.tap.specs.Reading.{wrongLetters, tapVersion, durationsIn, Tap, tapWith, infoOf, durationsOf, tapOf, fitting, readTap, Reads}
-use Rattle.tap.specs.Forms.{versionAnswer, durationAt, readIn}
-use Rattle.tap.proofs.DataLaws.{from, widthAt, form-next, form-cut, form-over}
+use Rattle.tap.specs.Forms.{noZeros, versionAnswer, readIn, from, Counted, Cut, Left, Kept}
+use Rattle.tap.proofs.DataLaws.{Step, byte-next, long-next, length-run, run-next, form-cut, form-over}
 use Rattle.tap.proofs.Heading.{version-long}
 
--- one more counted in front
-counted-one : (count d : ℕ) (o : Outcome (List ℕ)) → mapped (λ ds. count + 1 + length ds) o ≡ mapped (λ ds. count + length ds) (mapped (λ ds. d ∷ ds) o)
-counted-one count d (refused number block place) = refl
-counted-one count d (accepted ds) = ap accepted (let z : count + 1 + length ds ≡ count + length (d ∷ ds) = omega arith in z)
+-- more of them counted in front
+counted-more : (count : ℕ) (xs : List ℕ) (o : Outcome (List ℕ))
+    → mapped (λ ds. count + length xs + length ds) o ≡ mapped (λ ds. count + length ds) (mapped (λ ds. xs ++ ds) o)
+counted-more count xs (refused number block place) = refl
+counted-more count xs (accepted ds) = ap accepted (let l = length-append xs ds in let z : count + length xs + length ds ≡ count + length (xs ++ ds) = omega arith in z)
 
 counted-none : (o : Outcome (List ℕ)) → mapped (λ ds. 0 + length ds) o ≡ mapped length o
 counted-none (refused number block place) = refl
 counted-none (accepted ds) = rw zero-add
 
-module _ (v : ℕ) (bytes : List ℕ) where
+module _ (bytes : List ℕ) where
   -- ---- Counting
 
-  -- with those counted, the durations left give the whole number
-  pub record Counted (i count : ℕ) : Type 0 where
-    pub within : i ≤ length bytes
-    pub few : count ≤ i
-    pub whole : mapped (λ ds. count + length ds) (from v bytes i) ≡ mapped length (durationsIn v 0 bytes)
+  pub count-begun : Counted bytes 0 0
+  count-begun = record { within = omega arith; few = omega arith; whole = counted-none (durationsIn 1 0 bytes) }
 
-  pub count-begun : Counted 0 0
-  count-begun = record { within = omega arith; few = omega arith; whole = counted-none (durationsIn v 0 bytes) }
+  module _ {i count : ℕ} (u : Counted bytes i count) where
+    pub count-step : {i′ : ℕ} {xs : List ℕ} → Step bytes i i′ xs → Counted bytes i′ (count + length xs)
+    count-step {i′} {xs} s = record {
+      within = s .within;
+      few = omega (arith, u .few);
+      whole = counted-more count xs (from bytes i′) ∙ ap (mapped (λ ds. count + length ds)) (sym (s .durations)) ∙ u .whole;
+    }
 
-  module _ {i count : ℕ} (u : Counted i count) where
-    pub count-next : {i′ : ℕ} → i < length bytes → 1 ≤ widthAt v bytes i → i + widthAt v bytes i ≤ length bytes → i′ ≡ i + widthAt v bytes i
-        → Counted i′ (count + 1)
-    count-next h p w e = rw e (record {
-      within = w;
-      few = omega arith;
-      whole = counted-one count (durationAt v bytes i) (from v bytes (i + widthAt v bytes i))
-          ∙ ap (mapped (λ ds. count + length ds)) (sym (form-next v bytes i h w)) ∙ u .whole;
-    })
+    -- bytes that are a form each, to place `end`
+    pub count-run : (end : ℕ) → i ≤ end → end ≤ length bytes → noZeros (part bytes i (end - i)) ≡ true → Counted bytes end (count + (end - i))
+    count-run end h w e = let u′ = count-step (run-next bytes i end h w e) in rw (length-run bytes i end h w) at u′
 
-    pub count-cut : {r : Refusal} → i < length bytes → length bytes - i < widthAt v bytes i → r ≡ refusalAt CutLongForm i
-        → told r ≡ mapped length (durationsIn v 0 bytes)
-    count-cut h w q = told-refused (refusalAt CutLongForm i) (form-cut v bytes i h w) (λ ds. count + length ds) q ∙ u .whole
+    pub count-cut : {r : Refusal} → i < length bytes → Cut bytes i → r ≡ refusalAt CutLongForm i → told r ≡ mapped length (durationsIn 1 0 bytes)
+    count-cut h w q = told-refused (refusalAt CutLongForm i) (form-cut bytes i h w) (λ ds. count + length ds) q ∙ u .whole
 
-    pub count-done : length bytes ≤ i → accepted count ≡ mapped length (durationsIn v 0 bytes)
-    count-done h = ap accepted (let z : count ≡ count + 0 = omega arith in z) ∙ ap (mapped (λ ds. count + length ds)) (sym (form-over v bytes i h)) ∙ u .whole
+    pub count-done : length bytes ≤ i → accepted count ≡ mapped length (durationsIn 1 0 bytes)
+    count-done h = ap accepted (let z : count ≡ count + 0 = omega arith in z) ∙ ap (mapped (λ ds. count + length ds)) (sym (form-over bytes i h)) ∙ u .whole
 
   -- ---- Putting
 
   -- the data from place i on are sound
   abbrev pub Sound : ℕ → Type 0
-  Sound i = from v bytes i ≡ accepted (puts (from v bytes i))
+  Sound i = from bytes i ≡ accepted (puts (from bytes i))
 
-  -- the form at place i is whole, and sound data follow it
-  pub record Step (i : ℕ) : Type 0 where
-    pub within : i + widthAt v bytes i ≤ length bytes
-    pub sound : Sound (i + widthAt v bytes i)
-    pub first : puts (from v bytes i) ≡ durationAt v bytes i ∷ puts (from v bytes (i + widthAt v bytes i))
+  -- sound data are sound further on
+  sound-step : {i i′ : ℕ} {xs : List ℕ} → Step bytes i i′ xs → Sound i → Sound i′ × (puts (from bytes i) ≡ xs ++ puts (from bytes i′))
+  sound-step {i′ = i′} {xs} s h =
+      let m = mapped-accepted (λ ds. xs ++ ds) (from bytes i′) (sym h ∙ s .durations) in
+      (m .1 ∙ ap accepted (sym (ap puts (m .1))), sym (m .2) ∙ ap (λ (ds : List ℕ). xs ++ ds) (sym (ap puts (m .1))))
 
-  pub sound-step : (i : ℕ) → i < length bytes → Sound i → Step i
-  sound-step i h s = elim (decLe (i + widthAt v bytes i) (length bytes)) [
-    | yes w ↦
-        let e = form-next v bytes i h w in
-        let m = mapped-accepted (λ ds. durationAt v bytes i ∷ ds) (from v bytes (i + widthAt v bytes i)) (sym s ∙ e) in
-        record { within = w; sound = m .1 ∙ ap accepted (sym (ap puts (m .1))); first = sym (m .2) ∙ ap (λ (ds : List ℕ). durationAt v bytes i ∷ ds) (sym (ap puts (m .1))) }
-    | no w ↦ absurd (let e = form-cut v bytes i h (omega arith) in let z : _≡_ {A = ℕ} 0 1 = cc in omega arith)
+  pub sound-long : (i : ℕ) → i < length bytes → Sound i → getD bytes i 0 ≡ 0 → i + 4 ≤ length bytes
+  sound-long i h s z = elim (decLe (i + 4) (length bytes)) [
+    | yes w ↦ w
+    | no w ↦ absurd (let e = form-cut bytes i h (record { zero = z; short = omega arith }) in let q : _≡_ {A = ℕ} 0 1 = cc in omega arith)
   ]
 
-  module _ (before : List ℕ) where
-    pub record DurationsPut (out : List ℕ) (i k : ℕ) : Type 0 where
-      pub within : i ≤ length bytes
-      pub sound : Sound i
-      pub room : k + length (puts (from v bytes i)) ≤ length before
-      pub put : Putting before 0 (puts (durationsIn v 0 bytes)) out k (puts (from v bytes i))
+  module _ {i k : ℕ} {out : List ℕ} (u : Left bytes i out k) where
+    pub left-room : {i′ : ℕ} {xs : List ℕ} → Step bytes i i′ xs → k + length xs ≤ length out
+    left-room {i′} {xs} s =
+        let e = ap length (sound-step s (u .sound) .1) in
+        let l = length-append xs (puts (from bytes i′)) in
+        omega (arith, u .room)
 
-    module _ {out : List ℕ} {i k : ℕ} (u : DurationsPut out i k) where
-      pub durations-step : i < length bytes → Step i
-      durations-step h = sound-step i h (u .sound)
+    pub left-more : i < length bytes → k < length out
+    left-more h = elim (ℕ-discrete (getD bytes i 0) 0) [
+      | yes z ↦ omega (arith, left-room (long-next bytes i z (sound-long i h (u .sound) z)))
+      | no n ↦ omega (arith, left-room (byte-next bytes i h n))
+    ]
 
-      pub durations-room : i < length bytes → k < length out
-      durations-room h = let e = ap length (durations-step h .first) in omega (arith, u .room, u .put .long)
+    pub keep-begun : Kept bytes i out k i out k
+    keep-begun = record { left = u; whole = refl }
 
-      pub durations-next : {i′ d : ℕ} → i < length bytes → d ≡ durationAt v bytes i → i′ ≡ i + widthAt v bytes i
-          → DurationsPut (set out k d) i′ (k + 1)
-      durations-next h e q =
-          let s = durations-step h in
-          let l = ap length (s .first) in
-          rw (e, q) (record {
-            within = s .within;
-            sound = s .sound;
-            room = omega (arith, u .room);
-            put = put-one (u .put) (durationAt v bytes i) _ (s .first) refl;
-          })
+  module _ {i₀ i k₀ k : ℕ} {out₀ out : List ℕ} (u : Kept bytes i₀ out₀ k₀ i out k) where
+    pub keep-step : {i′ k′ : ℕ} {xs out′ : List ℕ} → Step bytes i i′ xs → out′ ≡ sets out k xs → k′ ≡ k + length xs → Kept bytes i₀ out₀ k₀ i′ out′ k′
+    keep-step {i′} {k′} {xs} {out′} s p q =
+        let n = sound-step s (u .left .sound) in
+        let e = ap length (n .1) in
+        let l = length-append xs (puts (from bytes i′)) in
+        let o : length out′ ≡ length out = ap length p ∙ length-sets out k xs in
+        record {
+          left = record { within = s .within; sound = n .0; room = omega (arith, u .left .room) };
+          whole = ap₂ (λ b j. sets b j (puts (from bytes i′))) p q ∙ sym (sets-append xs (puts (from bytes i′)) out k) ∙ ap (sets out k) (sym (n .1)) ∙ u .whole;
+        }
 
-      pub durations-done : length bytes ≤ i → out ≡ sets before 0 (puts (durationsIn v 0 bytes))
-      durations-done h = put-done (u .put) (ap puts (form-over v bytes i h))
+    pub keep-on : {i′ k′ : ℕ} {out′ : List ℕ} → Kept bytes i out k i′ out′ k′ → Kept bytes i₀ out₀ k₀ i′ out′ k′
+    keep-on v = record { left = v .left; whole = v .whole ∙ u .whole }
+
+    pub keep-long : length out ≡ length out₀
+    keep-long = sym (length-sets out k (puts (from bytes i))) ∙ ap length (u .whole) ∙ length-sets out₀ k₀ (puts (from bytes i₀))
+
+    pub keep-done : length bytes ≤ i → out ≡ sets out₀ k₀ (puts (from bytes i₀))
+    keep-done h = ap (sets out k) (sym (ap puts (form-over bytes i h))) ∙ u .whole
 
 -- ---- What the reader comes to
 
@@ -129,7 +130,7 @@ module _ (v : ℕ) (bytes out : List ℕ) {a : Put} (e : putAnswer a ≡ mapped 
     given : (ds : List ℕ) × (durationsIn v 0 bytes ≡ accepted ds) × (length ds ≡ count)
     given = mapped-accepted length (durationsIn v 0 bytes) (sym (ap putAnswer q) ∙ e)
 
-    pub data-sound : Sound v bytes 0
+    pub data-sound : durationsIn v 0 bytes ≡ accepted (puts (durationsIn v 0 bytes))
     data-sound = given .1 ∙ ap accepted (sym (ap puts (given .1)))
 
     pub data-count : length (puts (durationsIn v 0 bytes)) ≡ count

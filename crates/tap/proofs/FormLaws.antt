@@ -1,20 +1,22 @@
 -- Laws of the form that a duration is written in.
-use Prim.Native.Nat.{ℕ, _+_, _*_, _/_, _%_, _^_, _≤_, _<_}
+use Prim.Native.Nat.{ℕ, _+_, _-_, _*_, _/_, _%_, _^_, _≤_, _<_}
 use native.Mathlib.Decide.{ℕ-discrete, decLe}
 use native.Mathlib.Numerals.{add-one}
 use native.Mathlib.Omega.{arith}
 use mathlib.Core.Path.{_≡_, refl, sym, ap, _∙_}
 use mathlib.Core.Bool.{Bool, true, false, cond, not, _&&_}
-use mathlib.Core.List.{List, [], _∷_, _++_}
+use mathlib.Core.List.{List, [], _∷_, _++_, map, append-assoc}
 use borrow.Author.Tests.{eq-eqb, ne-eqb, le-leb, lt-leb, lt-ltb, le-ltb}
 use lib.Dec.{eqb, leb, ltb}
-use lib.ListN.{length, drop, getD, length-append, drop-of-length-le}
-use lib.Seq.{drop-cons}
+use lib.ListN.{length, drop, getD, length-append, drop-of-length-le, take-append-drop}
+use lib.Seq.{drop-cons, drop-drop}
+use Rattle.lists.specs.Places.{part}
 use Rattle.lists.specs.Text.{lowFirst}
 use Rattle.lists.proofs.TextLaws.{length-low}
 use Rattle.pulse.specs.Units.{unitCycles}
 use Rattle.tap.specs.Tap.{longUnit, longForm, formOf, tapData, hasNoForm}
-use Rattle.tap.specs.Forms.{byteUnits}
+use Rattle.tap.specs.Forms.{noZeros, byteUnits, otherForm}
+use Rattle.tap.proofs.Groups.{noZeros-next}
 
 -- ---- One byte
 
@@ -37,10 +39,6 @@ module _ (d : ℕ) where
     | yes m ↦ elim (decLe (d / unitCycles) 255) [ yes h ↦ rw (units-few m h) h | no h ↦ rw (units-many m (omega arith)) (omega arith) ]
     | no m ↦ rw (units-none m) (omega arith)
   ]
-
-  -- what is written where there is no one-byte form
-  abbrev pub otherForm : (version : ℕ) → List ℕ
-  otherForm v = cond (eqb v 0) (cond (eqb d 2048) (0 ∷ []) []) (longForm d)
 
   one-byte : (v : ℕ) → d % unitCycles ≡ 0 → 8 ≤ d → d ≤ 2040 → formOf v d ≡ d / unitCycles ∷ []
   unfolding formOf
@@ -69,7 +67,7 @@ module _ (d : ℕ) where
     | no m ↦ absurd (n (units-none m))
   ]
 
-  pub form-other : (v : ℕ) → byteUnits d ≡ 0 → formOf v d ≡ otherForm v
+  pub form-other : (v : ℕ) → byteUnits d ≡ 0 → formOf v d ≡ otherForm v d
   unfolding formOf
   form-other v z = elim (ℕ-discrete (d % unitCycles) 0) [
     | yes m ↦ elim (decLe 8 d) [
@@ -81,6 +79,14 @@ module _ (d : ℕ) where
     ]
     | no m ↦ rw (ne-eqb (d % unitCycles) 0 m)
   ]
+
+  -- a form that was found by the units
+  module _ (v : ℕ) {u : ℕ} (e : u ≡ byteUnits d) where
+    pub byte-form : (u ≡ 0 → ⊥) → u ∷ [] ≡ formOf v d
+    byte-form n = ap (λ x. x ∷ []) e ∙ sym (form-units v (λ z. n (e ∙ z)))
+
+    pub rest-form : {form : List ℕ} → u ≡ 0 → form ≡ otherForm v d → form ≡ formOf v d
+    rest-form z q = q ∙ sym (form-other v (sym e ∙ z))
 
   -- ---- The long form
 
@@ -99,16 +105,27 @@ module _ (d : ℕ) where
 
   -- ---- What is written otherwise
 
-  module _ (v : ℕ) (none : byteUnits d ≡ 0) where
-    pub form-long : (v ≡ 0 → ⊥) → formOf v d ≡ longForm d
-    form-long n = form-other v none ∙ rw (ne-eqb v 0 n)
+  module _ (v : ℕ) where
+    pub other-long : (v ≡ 0 → ⊥) → otherForm v d ≡ longForm d
+    other-long n = rw (ne-eqb v 0 n)
 
     module _ (z : v ≡ 0) where
-      pub form-zero : d ≡ 2048 → formOf v d ≡ 0 ∷ []
-      form-zero e = form-other v none ∙ rw (eq-eqb v 0 z, eq-eqb d 2048 e)
+      pub other-zero : d ≡ 2048 → otherForm v d ≡ 0 ∷ []
+      other-zero e = rw (eq-eqb v 0 z, eq-eqb d 2048 e)
 
-      pub form-missing : (d ≡ 2048 → ⊥) → formOf v d ≡ []
-      form-missing n = form-other v none ∙ rw (eq-eqb v 0 z, ne-eqb d 2048 n)
+      pub other-missing : (d ≡ 2048 → ⊥) → otherForm v d ≡ []
+      other-missing n = rw (eq-eqb v 0 z, ne-eqb d 2048 n)
+
+    module _ (none : byteUnits d ≡ 0) where
+      pub form-long : (v ≡ 0 → ⊥) → formOf v d ≡ longForm d
+      form-long n = form-other v none ∙ other-long n
+
+      module _ (z : v ≡ 0) where
+        pub form-zero : d ≡ 2048 → formOf v d ≡ 0 ∷ []
+        form-zero e = form-other v none ∙ other-zero z e
+
+        pub form-missing : (d ≡ 2048 → ⊥) → formOf v d ≡ []
+        form-missing n = form-other v none ∙ other-missing z n
 
 -- ---- The length of a form
 
@@ -132,14 +149,37 @@ width-form v d = go (eqb (d % unitCycles) 0 && leb 8 d && leb d 2040) (eqb v 0) 
 
 -- ---- tapData
 
--- the form of one duration, and those of the rest
-pub data-next : (v : ℕ) (ds : List ℕ) (i : ℕ) → i < length ds → tapData v (drop i ds) ≡ formOf v (getD ds i 0) ++ tapData v (drop (i + 1) ds)
+-- the durations from place i to place i′ have these forms
+pub record Stretch (v : ℕ) (ds : List ℕ) (i i′ : ℕ) (forms : List ℕ) : Type 0 where
+  pub within : i′ ≤ length ds
+  pub bytes : tapData v (drop i ds) ≡ forms ++ tapData v (drop i′ ds)
+
+pub data-next : (v : ℕ) (ds : List ℕ) (i : ℕ) → i < length ds → Stretch v ds i (i + 1) (formOf v (getD ds i 0))
 unfolding tapData
-data-next v ds i h = rw (drop-cons ds i 0 h, add-one)
+data-next v ds i h = record { within = omega arith; bytes = rw (drop-cons ds i 0 h, add-one) }
 
 pub data-over : (v : ℕ) (ds : List ℕ) (i : ℕ) → length ds ≤ i → tapData v (drop i ds) ≡ []
 unfolding tapData
 data-over v ds i h = rw (drop-of-length-le ds {i = i} h)
+
+data-append : (v : ℕ) (xs ys : List ℕ) → tapData v (xs ++ ys) ≡ tapData v xs ++ tapData v ys
+unfolding tapData
+data-append v [] ys = refl
+data-append v (x ∷ xs) ys = rw (data-append v xs ys, append-assoc)
+
+pub data-part : (v : ℕ) (ds : List ℕ) (i end : ℕ) → i ≤ end → end ≤ length ds → Stretch v ds i end (tapData v (part ds i (end - i)))
+data-part v ds i end h w =
+    let e = data-append v (part ds i (end - i)) (drop (end - i) (drop i ds)) in
+    let q : i + (end - i) ≡ end = omega arith in
+    record { within = w; bytes = rw (take-append-drop (end - i) (drop i ds), drop-drop, q) at e }
+
+-- durations that all have the one-byte form
+pub data-units : (v : ℕ) (ds : List ℕ) → noZeros (map byteUnits ds) ≡ true → tapData v ds ≡ map byteUnits ds
+unfolding tapData
+data-units v [] e = refl
+data-units v (d ∷ ds) e =
+    let n = noZeros-next (byteUnits d) (map byteUnits ds) e in
+    rw (form-units d v (n .0), data-units v ds (n .1))
 
 -- four bytes each at most
 pub width-data : (v : ℕ) (ds : List ℕ) → length (tapData v ds) ≤ 4 * length ds

@@ -1,3 +1,4 @@
+mod Groups
 mod Converting
 mod Writing
 mod Decoding

@@ -14,16 +14,18 @@ use refusal::Reason;
 use refusal::Refusal;
 ghost use Prim.Native.Nat.{_+_, _*_, _%_, _≤_, _<_};
 ghost use mathlib.Core.Path.{_≡_};
-ghost use mathlib.Core.List.{_∷_};
-ghost use lib.ListN.{length, getD};
+ghost use mathlib.Core.Bool.{true};
+ghost use mathlib.Core.List.{_∷_, map};
+ghost use mathlib.Core.Option.{some};
+ghost use lib.ListN.{length};
 ghost use lib.Seq.{sets};
 ghost use Rattle.lists.specs.Places.{part};
 ghost use Rattle.lists.specs.Text.{fromLow, lowFirst};
 ghost use Rattle.refusal.specs.Refusal.{accepted, mapped, puts, putAnswer, Written};
 ghost use Rattle.pulse.specs.Units.{unitCycles};
-ghost use Rattle.tap.specs.Tap.{tapHeader, longUnit, longForm, formOf, tapData, dataOf, putFile, writeTap};
+ghost use Rattle.tap.specs.Tap.{tapHeader, longUnit, longForm, formOf, tapData, firstWithout, dataOf, putFile, writeTap};
 ghost use Rattle.tap.specs.Reading.{wrongLetters, wrongCount, tapVersion, durationsIn, readTap, Reads};
-ghost use Rattle.tap.specs.Forms.{versionAnswer, formBytes, byteUnits, formWidth, durationAt, readIn};
+ghost use Rattle.tap.specs.Forms.{noZeros, versionAnswer, readIn, byteCycles, longCycles, Counted, Moved, Left, Kept, byteUnits, otherForm, formBytes, isMissing};
 
 // The bytes before the data.
 pub const HEADER_BYTES: usize = 20;
@@ -57,6 +59,9 @@ const THREE_BYTE_VALUES: usize = 0x100_0000;
 
 // How many numbers a byte holds.
 const BYTE_VALUES: usize = 256;
+
+// How many data bytes or durations are tried together: where each of them is a one-byte form, no branch is needed for it.
+const GROUP: usize = 128;
 
 // What an accepted TAP file answers: its version, and the number of durations put.
 pub struct TapInfo {
@@ -180,21 +185,99 @@ fn read_data(version: u8, bytes: &[u8], out: &mut [u32]) -> TapAnswer
     }
 }
 
-// How many durations the data hold.
+// How many durations the data hold. In version 0 every byte is one.
 fn count_durations(version: u8, bytes: &[u8]) -> Put
     ensures { λ r. ⌜ putAnswer r ≡ mapped length (durationsIn version 0 (now (bytes .entry))) ⌝ }
+{
+    if version == 0 {
+        return Put::Count(bytes.len());
+    }
+    count_forms(bytes)
+}
+
+// The same in version 1. A group in which counting does not move begins with a long form that is cut short.
+fn count_forms(bytes: &[u8]) -> Put
+    ensures { λ r. ⌜ putAnswer r ≡ mapped length (durationsIn 1 0 (now (bytes .entry))) ⌝ }
 {
     let mut i: usize = 0;
     let mut count: usize = 0;
     while i < bytes.len() {
-        let width = form_width(version, bytes[i]);
-        if bytes.len() - i < width {
+        let r = count_group(bytes, i, count);
+        if r.place == i {
             return Put::Refused(refusal::at(Reason::CutLongForm, i));
         }
-        i = i + width;
-        count = count + 1;
+        i = r.place;
+        count = r.count;
     }
     Put::Count(count)
+}
+
+// A place in the data of version 1 where a form begins, and the number of durations before it.
+struct Reached {
+    place: usize,
+    count: usize,
+}
+
+fn count_group(bytes: &[u8], start: usize, count: usize) -> Reached
+    requires { ⌜ start < length (now bytes) ⌝ }
+    requires { ⌜ Counted (now bytes) start count ⌝ }
+    ensures { λ r. ⌜ Counted (now (bytes .entry)) (r .place) (r .count) ⌝ }
+    ensures { λ r. ⌜ Moved (now (bytes .entry)) start (r .place) ⌝ }
+{
+    let end = group_end(start, bytes.len());
+    if no_zeros(&bytes[start..end]) {
+        return Reached {
+            place: end,
+            count: count + (end - start),
+        };
+    }
+    count_each(bytes, start, end, count)
+}
+
+// Counts form by form, to the end of a group or a long form that is cut short.
+fn count_each(bytes: &[u8], start: usize, end: usize, before: usize) -> Reached
+    requires { ⌜ (start < end) × (end ≤ length (now bytes)) ⌝ }
+    requires { ⌜ Counted (now bytes) start before ⌝ }
+    ensures { λ r. ⌜ Counted (now (bytes .entry)) (r .place) (r .count) ⌝ }
+    ensures { λ r. ⌜ Moved (now (bytes .entry)) start (r .place) ⌝ }
+{
+    let mut i = start;
+    let mut count = before;
+    while i < end {
+        if bytes[i] != 0 {
+            i = i + 1;
+        } else {
+            if bytes.len() - i < LONG_BYTES {
+                return Reached { place: i, count };
+            }
+            i = i + LONG_BYTES;
+        }
+        count = count + 1;
+    }
+    Reached { place: i, count }
+}
+
+// Where the group ends that begins at a place below n.
+fn group_end(start: usize, n: usize) -> usize
+    requires { ⌜ start < n ⌝ }
+    ensures { λ r. ⌜ (start < r) × (r ≤ n) ⌝ }
+{
+    if n - start < GROUP {
+        return n;
+    }
+    start + GROUP
+}
+
+fn no_zeros(bytes: &[u8]) -> bool
+    ensures { λ r. ⌜ r ≡ noZeros (now (bytes .entry)) ⌝ }
+{
+    let mut i: usize = 0;
+    let mut none = true;
+    while i < bytes.len() {
+        none = none & (bytes[i] != 0);
+        i = i + 1;
+    }
+    none
 }
 
 fn put_durations(version: u8, bytes: &[u8], out: &mut [u32])
@@ -202,40 +285,95 @@ fn put_durations(version: u8, bytes: &[u8], out: &mut [u32])
     requires room { ⌜ length (puts (durationsIn version 0 (now bytes))) ≤ length (now out) ⌝ }
     ensures { λ _. ⌜ now (out .exit) ≡ sets (now (out .entry)) 0 (puts (durationsIn version 0 (now (bytes .entry)))) ⌝ }
 {
+    if version == 0 {
+        put_cycles(bytes, out, 0);
+        return;
+    }
+    put_forms(bytes, out);
+}
+
+// The same in version 1.
+fn put_forms(bytes: &[u8], out: &mut [u32])
+    requires { ⌜ Left (now bytes) 0 (now out) 0 ⌝ }
+    ensures { λ _. ⌜ now (out .exit) ≡ sets (now (out .entry)) 0 (puts (durationsIn 1 0 (now (bytes .entry)))) ⌝ }
+{
     let mut i: usize = 0;
     let mut k: usize = 0;
     while i < bytes.len() {
-        out[k] = duration_at(version, bytes, i);
-        i = i + form_width(version, bytes[i]);
+        let r = put_group(bytes, i, out, k);
+        i = r.place;
+        k = r.count;
+    }
+}
+
+fn put_group(bytes: &[u8], start: usize, out: &mut [u32], k: usize) -> Reached
+    requires { ⌜ start < length (now bytes) ⌝ }
+    requires { ⌜ Left (now bytes) start (now out) k ⌝ }
+    ensures { λ r. ⌜ start < r .place ⌝ }
+    ensures { λ r. ⌜ Kept (now (bytes .entry)) start (now (out .entry)) k (r .place) (now (out .exit)) (r .count) ⌝ }
+{
+    let end = group_end(start, bytes.len());
+    let group = &bytes[start..end];
+    if no_zeros(group) {
+        put_cycles(group, out, k);
+        return Reached {
+            place: end,
+            count: k + (end - start),
+        };
+    }
+    put_each(bytes, start, end, out, k)
+}
+
+// Puts durations form by form, to the end of a group.
+fn put_each(bytes: &[u8], start: usize, end: usize, out: &mut [u32], before: usize) -> Reached
+    requires { ⌜ (start < end) × (end ≤ length (now bytes)) ⌝ }
+    requires { ⌜ Left (now bytes) start (now out) before ⌝ }
+    ensures { λ r. ⌜ start < r .place ⌝ }
+    ensures { λ r. ⌜ Kept (now (bytes .entry)) start (now (out .entry)) before (r .place) (now (out .exit)) (r .count) ⌝ }
+{
+    let mut i = start;
+    let mut k = before;
+    while i < end {
+        let first = bytes[i];
+        if first != 0 {
+            out[k] = byte_cycles(first).0;
+            i = i + 1;
+        } else {
+            out[k] = long_cycles(bytes, i);
+            i = i + LONG_BYTES;
+        }
         k = k + 1;
     }
+    Reached { place: i, count: k }
 }
 
-// How many bytes the form has that begins with this byte.
-fn form_width(version: u8, first: u8) -> usize
-    ensures { λ r. ⌜ r ≡ formWidth version first ⌝ }
+// Puts the durations of bytes that are a form each.
+fn put_cycles(bytes: &[u8], out: &mut [u32], at: usize)
+    requires { ⌜ at + length (now bytes) ≤ length (now out) ⌝ }
+    ensures { λ _. ⌜ now (out .exit) ≡ sets (now (out .entry)) at (map byteCycles (now (bytes .entry))) ⌝ }
 {
-    if first != 0 {
-        return 1;
+    let mut i: usize = 0;
+    while i < bytes.len() {
+        out[at + i] = lone_cycles(bytes[i]);
+        i = i + 1;
     }
-    if version == 0 {
-        return 1;
-    }
-    LONG_BYTES
 }
 
-// The duration whose form begins at a place.
-fn duration_at(version: u8, bytes: &[u8], i: usize) -> u32
-    requires { ⌜ i + formWidth version (getD (now bytes) i 0) ≤ length (now bytes) ⌝ }
-    ensures { λ r. ⌜ r ≡ durationAt version (now (bytes .entry)) i ⌝ }
+// What a byte stands for that is a form by itself.
+fn lone_cycles(b: u8) -> u32
+    ensures { λ r. ⌜ r ≡ byteCycles b ⌝ }
 {
-    let first = bytes[i];
-    if first != 0 {
-        return byte_cycles(first).0;
-    }
-    if version == 0 {
+    if b == 0 {
         return ZERO_CYCLES;
     }
+    byte_cycles(b).0
+}
+
+// What the long form at a place stands for.
+fn long_cycles(bytes: &[u8], i: usize) -> u32
+    requires { ⌜ i + 4 ≤ length (now bytes) ⌝ }
+    ensures { λ r. ⌜ r ≡ longCycles (now (bytes .entry)) i ⌝ }
+{
     three_bytes(bytes, i + 1) * long_unit().0
 }
 
@@ -252,18 +390,18 @@ fn byte_cycles(units: u8) -> Cycles
 }
 
 // The units of a duration that one byte counts; 0 where it has no such form.
-fn byte_units(duration: u32) -> u8
+fn byte_units(duration: u32) -> u32
     ensures { λ r. ⌜ r ≡ byteUnits duration ⌝ }
+    ensures { λ r. ⌜ r < 256 ⌝ }
 {
     let InUnits::Whole(u) = pulse::units_of(Cycles(duration)) else {
         return 0;
     };
     let units = u.0;
     if units <= MOST_BYTE_UNITS {
-        units as u8
-    } else {
-        0
+        return units;
     }
+    0
 }
 
 // The cycles that one count of the long form stands for: those of one unit.
@@ -287,8 +425,15 @@ fn form_of(version: u8, duration: u32) -> Form
 {
     let units = byte_units(duration);
     if units != 0 {
-        return Form::Byte(units);
+        return Form::Byte(units as u8);
     }
+    other_form(version, duration)
+}
+
+// How a duration is written that has no one-byte form.
+fn other_form(version: u8, duration: u32) -> Form
+    ensures { λ r. ⌜ formBytes r ≡ otherForm version duration ⌝ }
+{
     if version != 0 {
         return long_form(duration);
     }
@@ -328,17 +473,47 @@ fn measure_data(version: u8, durations: &[u32]) -> Put
     requires { ⌜ length (now durations) ≤ 1048576 ⌝ }
     ensures { λ r. ⌜ putAnswer r ≡ mapped length (dataOf version (now (durations .entry))) ⌝ }
 {
+    let sum = sum_widths(version, durations);
+    if sum.missing {
+        let i = first_missing(version, durations);
+        return Put::Refused(refusal::at(Reason::NoTapForm, i));
+    }
+    Put::Count(sum.bytes as usize)
+}
+
+// How many bytes there are in all forms, and whether a form is missing.
+struct Widths {
+    bytes: u32,
+    missing: bool,
+}
+
+fn sum_widths(version: u8, durations: &[u32]) -> Widths
+    requires { ⌜ length (now durations) ≤ 1048576 ⌝ }
+    ensures { λ r. ⌜ r .bytes ≡ length (tapData version (now (durations .entry))) ⌝ }
+    ensures { λ r. ⌜ r .missing ≡ isMissing version (now (durations .entry)) ⌝ }
+{
     let mut i: usize = 0;
-    let mut n: usize = 0;
+    let mut bytes: u32 = 0;
+    let mut missing = false;
     while i < durations.len() {
-        let width = form_length(form_of(version, durations[i]));
-        if width == 0 {
-            return Put::Refused(refusal::at(Reason::NoTapForm, i));
-        }
-        n = n + width;
+        let width = form_length(form_of(version, durations[i])) as u32;
+        bytes = bytes + width;
+        missing = missing | (width == 0);
         i = i + 1;
     }
-    Put::Count(n)
+    Widths { bytes, missing }
+}
+
+// The first duration that has no form, where there is one.
+fn first_missing(version: u8, durations: &[u32]) -> usize
+    requires { ⌜ isMissing version (now durations) ≡ true ⌝ }
+    ensures { λ r. ⌜ firstWithout version (now (durations .entry)) ≡ some r ⌝ }
+{
+    let mut i: usize = 0;
+    while form_length(form_of(version, durations[i])) != 0 {
+        i = i + 1;
+    }
+    i
 }
 
 // Writes a file of n data bytes, at most four for each duration.
@@ -376,11 +551,70 @@ fn put_data(version: u8, durations: &[u32], out: &mut [u8])
     let mut i: usize = 0;
     let mut at = HEADER_BYTES;
     while i < durations.len() {
-        let form = form_of(version, durations[i]);
-        put_form(form, out, at);
-        at = at + form_length(form);
+        let end = group_end(i, durations.len());
+        at = write_group(version, &durations[i..end], out, at);
+        i = end;
+    }
+}
+
+// Puts forms from a place on, and answers the place after them.
+fn write_group(version: u8, durations: &[u32], out: &mut [u8], at: usize) -> usize
+    requires { ⌜ at + length (tapData version (now durations)) ≤ length (now out) ⌝ }
+    ensures { λ r. ⌜ r ≡ at + length (tapData version (now (durations .entry))) ⌝ }
+    ensures { λ r. ⌜ now (out .exit) ≡ sets (now (out .entry)) at (tapData version (now (durations .entry))) ⌝ }
+{
+    if all_bytes(durations) {
+        write_units(durations, out, at);
+        return at + durations.len();
+    }
+    write_each(version, durations, out, at)
+}
+
+// Whether all durations have the one-byte form.
+fn all_bytes(durations: &[u32]) -> bool
+    ensures { λ r. ⌜ r ≡ noZeros (map byteUnits (now (durations .entry))) ⌝ }
+{
+    let mut i: usize = 0;
+    let mut all = true;
+    while i < durations.len() {
+        all = all & (byte_units(durations[i]) != 0);
         i = i + 1;
     }
+    all
+}
+
+// Puts the forms of durations that all have the one-byte form.
+fn write_units(durations: &[u32], out: &mut [u8], at: usize)
+    requires { ⌜ at + length (now durations) ≤ length (now out) ⌝ }
+    ensures { λ _. ⌜ now (out .exit) ≡ sets (now (out .entry)) at (map byteUnits (now (durations .entry))) ⌝ }
+{
+    let mut i: usize = 0;
+    while i < durations.len() {
+        out[at + i] = byte_units(durations[i]) as u8;
+        i = i + 1;
+    }
+}
+
+fn write_each(version: u8, durations: &[u32], out: &mut [u8], start: usize) -> usize
+    requires { ⌜ start + length (tapData version (now durations)) ≤ length (now out) ⌝ }
+    ensures { λ r. ⌜ r ≡ start + length (tapData version (now (durations .entry))) ⌝ }
+    ensures { λ r. ⌜ now (out .exit) ≡ sets (now (out .entry)) start (tapData version (now (durations .entry))) ⌝ }
+{
+    let mut i: usize = 0;
+    let mut at = start;
+    while i < durations.len() {
+        let units = byte_units(durations[i]);
+        if units != 0 {
+            out[at] = units as u8;
+            at = at + 1;
+        } else {
+            let form = other_form(version, durations[i]);
+            put_form(form, out, at);
+            at = at + form_length(form);
+        }
+        i = i + 1;
+    }
+    at
 }
 
 fn put_form(form: Form, out: &mut [u8], at: usize)

@@ -1,4 +1,5 @@
 -- `tap::byte_units` meets its contract: between two units there is none, and a whole number counts where one byte holds it.
+use native.Mathlib.Omega.{arith}
 use borrow.Author.Needs.{needs}
 use Rattle.tap.proofs.Converting.{between, few, many}
 use Rattle.tap.proofs.byte_units.Statement.{statement}
@@ -14,18 +15,17 @@ enum-told : tie.Need-enum-told
 enum-told c = search needs
 
 returns : tie.Need-returns
-returns c = let f = c .before .before in between (f .before .args .duration) (f .units-of .ensures) (c .enum-told .given .1)
-
-cast-result : tie.Need-cast-result
-cast-result c = search needs
+returns c = let f = c .before .before in (between (f .before .args .duration) (f .units-of .ensures) (c .enum-told .given .1), omega arith)
 
 returns-2 : tie.Need-returns-2
-returns-2 c = let k = c .before .before in let f = k .before .before in few (f .before .args .duration) (f .units-of .ensures) (k .u .given .1) (c .if1 .taken)
+returns-2 c =
+    let k = c .before .before in
+    let f = k .before .before in
+    (few (f .before .args .duration) (f .units-of .ensures) (k .u .given .1) (c .if1 .taken), omega arith)
 
 returns-3 : tie.Need-returns-3
-returns-3 c = let k = c .before .before in let f = k .before .before in many (f .before .args .duration) (f .units-of .ensures) (k .u .given .1) (c .if1 .left)
+returns-3 c = let k = c .before .before in let f = k .before .before in (many (f .before .args .duration) (f .units-of .ensures) (k .u .given .1) (c .if1 .left), omega arith)
 
 pub byte-units-spec : {M : Type 1} → statement M
 byte-units-spec =
-    tie.close
-    (tie.spec units-of-requires enum-known-u enum-told returns cast-result returns-2 returns-3)
+    tie.close (tie.spec units-of-requires enum-known-u enum-told returns returns-2 returns-3)

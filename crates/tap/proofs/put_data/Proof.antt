@@ -4,12 +4,14 @@ use native.Mathlib.Omega.{arith}
 use borrow.Author.Needs.{needs}
 use denote.Ref.{now}
 use lib.ListN.{length}
+use Rattle.tap.proofs.FormLaws.{data-part}
 use Rattle.tap.proofs.Writing.{DataPut, data-room, data-step, data-done}
+use Rattle.tap.proofs.Writing.{DataPut}
 use Rattle.tap.proofs.put_data.Statement.{statement}
 use Rattle.tap.proofs.put_data.Tie as tie
 
 abbrev Inv-loop : tie.InvT-loop
-Inv-loop version durations out₀ i₀ at₀ out i at = DataPut version durations out₀ out i at
+Inv-loop version durations out₀ i₀ at₀ out i at = DataPut version durations out₀ 20 out i at
 
 abbrev μ-loop : tie.MeasureT-loop
 μ-loop version durations out₀ i₀ at₀ out i at = length durations - i
@@ -17,47 +19,41 @@ abbrev μ-loop : tie.MeasureT-loop
 loop-holds : tie.Need-loop-holds Inv-loop μ-loop
 loop-holds c = search needs
 
-mul-form-of : tie.Need-mul-form-of Inv-loop μ-loop
-mul-form-of c = search needs
+group-end-requires : tie.Need-group-end-requires Inv-loop μ-loop
+group-end-requires c κs = search needs
 
-shared-slice-read-form-of : tie.Need-shared-slice-read-form-of Inv-loop μ-loop
-shared-slice-read-form-of c = search needs
+mul-write-group : tie.Need-mul-write-group Inv-loop μ-loop
+mul-write-group c = search needs
 
-form-of-requires : tie.Need-form-of-requires Inv-loop μ-loop
-form-of-requires c κs = search needs
+sub-write-group : tie.Need-sub-write-group Inv-loop μ-loop
+sub-write-group c = search needs
 
-put-form-requires : tie.Need-put-form-requires Inv-loop μ-loop
-put-form-requires c κs =
-    let f = c .before in
-    let h = f .before .before .before in
-    let a = h .before .before .before .args in
-    data-room (a .version) (now (a .durations)) (now (a .out)) (h .loop .inv) (f .before .before .loop-test .taken) (f .form-of .ensures)
+part-write-group-start : tie.Need-part-write-group-start Inv-loop μ-loop
+part-write-group-start c = search needs
 
-form-length-requires : tie.Need-form-length-requires Inv-loop μ-loop
-form-length-requires c κs = search needs
+part-write-group-end : tie.Need-part-write-group-end Inv-loop μ-loop
+part-write-group-end c = search needs
 
-add-at : tie.Need-add-at Inv-loop μ-loop
-add-at c =
-    let f = c .before .before .before .before .before in
-    let h = f .before .before .before in
-    let a = h .before .before .before .args in
-    let r = data-room (a .version) (now (a .durations)) (now (a .out)) (h .loop .inv) (f .before .before .loop-test .taken) (f .form-of .ensures) in
-    omega (arith, c .form-length .ensures)
-
-add-i : tie.Need-add-i Inv-loop μ-loop
-add-i c = search needs
+write-group-requires : tie.Need-write-group-requires Inv-loop μ-loop
+write-group-requires c κs =
+    let g = c .before .before in
+    let h = g .before .before in
+    let s = h .before .before .before in
+    let a = s .args in
+    let p = data-part (a .version) (now (a .durations)) (h .loop .i) (g .group-end .result) (omega arith) (omega arith) in
+    data-room (a .version) (now (a .durations)) (now (a .out)) 20 (h .loop .inv) p (s .pre)
 
 loop-less : tie.Need-loop-less Inv-loop μ-loop
 loop-less c = search needs
 
 loop-again : tie.Need-loop-again Inv-loop μ-loop
 loop-again c =
-    let p = c .before .before .before in
-    let f = p .before .before in
-    let h = f .before .before .before in
+    let w = c .before .before in
+    let g = w .before .before .before in
+    let h = g .before .before in
     let a = h .before .before .before .args in
-    data-step (a .version) (now (a .durations)) (now (a .out)) (h .loop .inv) (f .before .before .loop-test .taken) (f .form-of .ensures) (p .put-form .ensures)
-    (c .form-length .ensures)
+    let p = data-part (a .version) (now (a .durations)) (h .loop .i) (g .group-end .result) (omega arith) (omega arith) in
+    data-step (a .version) (now (a .durations)) (now (a .out)) 20 (h .loop .inv) p (w .write-group .ensures .1) (w .write-group .ensures .0)
 
 same-length : tie.Need-same-length Inv-loop μ-loop
 same-length c = search needs
@@ -66,7 +62,7 @@ returns : tie.Need-returns Inv-loop μ-loop
 returns c =
     let h = c .before in
     let a = h .before .before .before .args in
-    data-done (a .version) (now (a .durations)) (now (a .out)) (h .loop .inv) (c .loop-test .left)
+    data-done (a .version) (now (a .durations)) (now (a .out)) 20 (h .loop .inv) (c .loop-test .left)
 
 pub put-data-spec : {M : Type 1} → statement M
 put-data-spec =
@@ -75,13 +71,12 @@ put-data-spec =
     Inv-loop
     μ-loop
     loop-holds
-    mul-form-of
-    shared-slice-read-form-of
-    form-of-requires
-    put-form-requires
-    form-length-requires
-    add-at
-    add-i
+    group-end-requires
+    mul-write-group
+    sub-write-group
+    part-write-group-start
+    part-write-group-end
+    write-group-requires
     loop-less
     loop-again
     same-length

@@ -1,94 +1,53 @@
--- `tap::put_durations` meets its contract. The invariant: the durations of the data left, put after those that are there, give them all.
-use Prim.Native.Nat.{_-_}
+-- `tap::put_durations` meets its contract: every byte in version 0, and else the forms of version 1.
+use native.Mathlib.Nat.{zero-add}
 use native.Mathlib.Omega.{arith}
+use mathlib.Core.Path.{sym, ap, _∙_}
 use borrow.Author.Needs.{needs}
 use denote.Ref.{now}
-use lib.ListN.{length, getD}
-use Rattle.tap.proofs.DataLaws.{width-pos}
-use Rattle.tap.proofs.Decoding.{DurationsPut, durations-step, durations-room, durations-next, durations-done}
+use lib.ListN.{length-map}
+use lib.Seq.{sets}
+use Rattle.refusal.specs.Refusal.{puts}
+use Rattle.tap.proofs.DataLaws.{durations-old, durations-new}
 use Rattle.tap.proofs.put_durations.Statement.{statement}
 use Rattle.tap.proofs.put_durations.Tie as tie
 
-abbrev Inv-loop : tie.InvT-loop
-Inv-loop version bytes out₀ i₀ k₀ out i k = DurationsPut version bytes out₀ out i k
+put-cycles-requires : tie.Need-put-cycles-requires
+put-cycles-requires c κs =
+    let s = c .before .before .before .before in
+    let a = s .args in
+    let r = s .pre .1 in
+    rw zero-add (rw (c .before .if1 .taken, durations-old 0 (now (a .bytes)), length-map) at r)
 
-abbrev μ-loop : tie.MeasureT-loop
-μ-loop version bytes out₀ i₀ k₀ out i k = length bytes - i
-
-loop-holds : tie.Need-loop-holds Inv-loop μ-loop
-loop-holds c = search needs
-
-duration-at-requires : tie.Need-duration-at-requires Inv-loop μ-loop
-duration-at-requires c κs =
-    let h = c .before in
-    let a = h .before .before .before .args in
-    durations-step (a .version) (now (a .bytes)) (now (a .out)) (h .loop .inv) (c .loop-test .taken) .within
-
-mul-out : tie.Need-mul-out Inv-loop μ-loop
-mul-out c = search needs
-
-slice-write-out : tie.Need-slice-write-out Inv-loop μ-loop
-slice-write-out c =
-    let h = c .before .before in
-    let a = h .before .before .before .args in
-    durations-room (a .version) (now (a .bytes)) (now (a .out)) (h .loop .inv) (c .before .loop-test .taken)
-
-shared-slice-read-form-width : tie.Need-shared-slice-read-form-width Inv-loop μ-loop
-shared-slice-read-form-width c = search needs
-
-form-width-requires : tie.Need-form-width-requires Inv-loop μ-loop
-form-width-requires c κs = search needs
-
-add-i : tie.Need-add-i Inv-loop μ-loop
-add-i c =
-    let t = c .before .before .before in
-    let h = t .before in
-    let a = h .before .before .before .args in
-    let s = durations-step (a .version) (now (a .bytes)) (now (a .out)) (h .loop .inv) (t .loop-test .taken) .within in
-    omega (arith, c .form-width .ensures)
-
-add-k : tie.Need-add-k Inv-loop μ-loop
-add-k c = search needs
-
-loop-less : tie.Need-loop-less Inv-loop μ-loop
-loop-less c =
-    let t = c .before .before .before in
-    let h = t .before in
-    let a = h .before .before .before .args in
-    let p = width-pos (a .version) (getD (now (a .bytes)) (h .loop .i) 0) in
-    omega (arith, c .form-width .ensures)
-
-loop-again : tie.Need-loop-again Inv-loop μ-loop
-loop-again c =
-    let d = c .before .before in
-    let h = d .before .before in
-    let a = h .before .before .before .args in
-    durations-next (a .version) (now (a .bytes)) (now (a .out)) (h .loop .inv) (d .before .loop-test .taken) (d .duration-at .ensures) (rw (c .form-width .ensures))
-
-same-length : tie.Need-same-length Inv-loop μ-loop
+same-length : tie.Need-same-length
 same-length c = search needs
 
-returns : tie.Need-returns Inv-loop μ-loop
+returns : tie.Need-returns
 returns c =
-    let h = c .before in
-    let a = h .before .before .before .args in
-    durations-done (a .version) (now (a .bytes)) (now (a .out)) (h .loop .inv) (c .loop-test .left)
+    let p = c .before .before in
+    let t = p .before .before in
+    let a = t .before .before .before .args in
+    p .put-cycles .ensures ∙ rw (t .if1 .taken, durations-old 0 (now (a .bytes)))
+
+put-forms-requires : tie.Need-put-forms-requires
+put-forms-requires c κs =
+    let s = c .before .before .before .before in
+    let a = s .args in
+    let e = durations-new (a .version) (c .before .if1 .left) 0 (now (a .bytes)) in
+    let p = s .pre .0 in
+    let r = s .pre .1 in
+    record { within = omega arith; sound = rw e at p; room = rw zero-add (rw e at r) }
+
+same-length-2 : tie.Need-same-length-2
+same-length-2 c = search needs
+
+returns-2 : tie.Need-returns-2
+returns-2 c =
+    let p = c .before .before in
+    let t = p .before .before in
+    let a = t .before .before .before .args in
+    p .put-forms .ensures ∙ ap (λ o. sets (now (a .out)) 0 (puts o)) (sym (durations-new (a .version) (t .if1 .left) 0 (now (a .bytes))))
 
 pub put-durations-spec : {M : Type 1} → statement M
 put-durations-spec =
     tie.close
-    (tie.spec
-    Inv-loop
-    μ-loop
-    loop-holds
-    duration-at-requires
-    mul-out
-    slice-write-out
-    shared-slice-read-form-width
-    form-width-requires
-    add-i
-    add-k
-    loop-less
-    loop-again
-    same-length
-    returns)
+    (tie.spec put-cycles-requires same-length returns put-forms-requires same-length-2 returns-2)

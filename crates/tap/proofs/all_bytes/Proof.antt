@@ -1,0 +1,67 @@
+-- `tap::all_bytes` meets its contract. The invariant: with the durations tested, the rest gives the answer.
+use Prim.Native.Nat.{_-_, _≤_}
+use native.Mathlib.Omega.{arith}
+use mathlib.Core.Path.{sym, _∙_}
+use mathlib.Core.Bool.{not, _&&_}
+use mathlib.Core.List.{map}
+use borrow.Author.Needs.{needs}
+use denote.Ref.{now}
+use lib.Dec.{eqb}
+use lib.ListN.{length, length-map}
+use lib.ListN.{length}
+use Rattle.tap.specs.Forms.{byteUnits}
+use Rattle.tap.proofs.Groups.{Tested, test-next, test-done, getD-mapped}
+use Rattle.tap.proofs.Groups.{Tested}
+use Rattle.tap.proofs.all_bytes.Statement.{statement}
+use Rattle.tap.proofs.all_bytes.Tie as tie
+
+abbrev Inv-loop : tie.InvT-loop
+Inv-loop durations i₀ all₀ i all = (i ≤ length durations) × Tested (map byteUnits durations) i all
+
+abbrev μ-loop : tie.MeasureT-loop
+μ-loop durations i₀ all₀ i all = length durations - i
+
+loop-holds : tie.Need-loop-holds Inv-loop μ-loop
+loop-holds c = search needs
+
+mul-byte-units : tie.Need-mul-byte-units Inv-loop μ-loop
+mul-byte-units c = search needs
+
+shared-slice-read-byte-units : tie.Need-shared-slice-read-byte-units Inv-loop μ-loop
+shared-slice-read-byte-units c = search needs
+
+byte-units-requires : tie.Need-byte-units-requires Inv-loop μ-loop
+byte-units-requires c κs = search needs
+
+add-i : tie.Need-add-i Inv-loop μ-loop
+add-i c = search needs
+
+loop-less : tie.Need-loop-less Inv-loop μ-loop
+loop-less c = search needs
+
+loop-again : tie.Need-loop-again Inv-loop μ-loop
+loop-again c =
+    let h = c .before .before .before in
+    let ds = now (h .before .before .args .durations) in
+    let t = c .before .before .loop-test .taken in
+    let e = c .byte-units .ensures .0 ∙ sym (getD-mapped byteUnits ds (h .loop .i) t) in
+    let n = test-next (h .loop .inv .1) (rw length-map t) in
+    (omega arith, rw e n)
+
+returns : tie.Need-returns Inv-loop μ-loop
+returns c = let h = c .before in test-done (h .loop .inv .1) (rw length-map (c .loop-test .left))
+
+pub all-bytes-spec : {M : Type 1} → statement M
+all-bytes-spec =
+    tie.close
+    (tie.spec
+    Inv-loop
+    μ-loop
+    loop-holds
+    mul-byte-units
+    shared-slice-read-byte-units
+    byte-units-requires
+    add-i
+    loop-less
+    loop-again
+    returns)
