@@ -18,6 +18,16 @@ static int refused(uint32_t refusal, uint32_t block, uint64_t place)
     return 1;
 }
 
+static void tell(tape_file found, tape_span name)
+{
+    fprintf(stderr, "type %u, $%04X to $%04X, ", (unsigned)found.type, (unsigned)found.start, (unsigned)found.end);
+    for (uint64_t i = 0; i < name.length; i++) {
+        uint8_t c = header[name.offset + i];
+        fputc(c < 0x20 || c > 0x7E ? '.' : c, stderr);
+    }
+    fputc('\n', stderr);
+}
+
 int main(void)
 {
     size_t len = fread(file, 1, sizeof file, stdin);
@@ -33,9 +43,7 @@ int main(void)
     if (found.refusal != TAPE_ACCEPTED)
         return refused(found.refusal, found.block, found.place);
 
-    tape_span name = tape_shown_name(header, sizeof header);
+    tell(found, tape_shown_name(header, sizeof header));
     size_t n = found.end - found.start;
-    fprintf(stderr, "type %u, $%04X to $%04X, %zu bytes, %.*s\n", (unsigned)found.type, (unsigned)found.start, (unsigned)found.end, n,
-            (int)name.length, (const char *)header + name.offset);
-    return fwrite(data, 1, n, stdout) == n ? 0 : 1;
+    return fwrite(data, 1, n, stdout) == n && fflush(stdout) == 0 ? 0 : 1;
 }

@@ -25,10 +25,11 @@ int main(int argc, char **argv)
         fprintf(stderr, "usage: save NAME START < PROGRAM > FILE.tap\n");
         return 1;
     }
-    unsigned long start = strtoul(argv[2], NULL, 16);
+    char *rest;
+    unsigned long start = strtoul(argv[2], &rest, 16);
     size_t n = fread(data, 1, sizeof data, stdin);
-    if (n > TAPE_MOST_BYTES || start + n > 0xFFFF) {
-        fprintf(stderr, "the program has over %d bytes, or ends above $FFFF\n", TAPE_MOST_BYTES);
+    if (rest == argv[2] || *rest != '\0' || start > 0xFFFF || n > TAPE_MOST_BYTES || start + n > 0xFFFF) {
+        fprintf(stderr, "START is no address, or the program has over %d bytes, or ends above $FFFF\n", TAPE_MOST_BYTES);
         return 1;
     }
     tape_put strip = tape_write_file(1, (uint16_t)start, (uint16_t)(start + n), (const uint8_t *)argv[1], strlen(argv[1]),
@@ -39,5 +40,5 @@ int main(int argc, char **argv)
     tape_put tape = tape_write_tap(pulses, strip.count, 1, file, sizeof file);
     if (tape.refusal != TAPE_ACCEPTED)
         return refused(tape);
-    return fwrite(file, 1, tape.count, stdout) == tape.count ? 0 : 1;
+    return fwrite(file, 1, tape.count, stdout) == tape.count && fflush(stdout) == 0 ? 0 : 1;
 }

@@ -2,21 +2,23 @@
  *
  * Pulses, blocks that are recorded twice, headers, program files and TAP files, read and written. What each call answers and leaves in a
  * buffer is proved for every input: any pulses, any bytes, any numbers. A call never reads or writes past a buffer, always returns, and
- * needs no look at its input beforehand.
+ * does not rely on the caller having checked its input.
  *
- * What a caller has to see to, because nothing in C can check it:
+ * The caller has to make sure of what nothing in C can check:
  *   - a pointer points to at least as many elements as its length says; with length 0 it may be null;
  *   - a buffer for output overlaps neither the input nor another output;
  *   - there is enough stack: see TAPE_STACK_* below.
  *
  * There is no heap, no global state, no file access, and no setting up. Calls on different buffers may run at the same time. The archive
- * is for x86-64 Linux and takes nothing from the C library but memcpy and memset.
+ * is for x86-64 Linux and uses nothing of the C library but memcpy and memset.
  *
- * Refusals. Every answer begins with `refusal`, `block` and `place`. `refusal` 0 means accepted; `block` and `place` are then 0. Any other
- * `refusal` is one of the numbers below; then every number after `place` is 0, and no buffer has been altered. `block` is 1 for a program
- * file's data block, else 0. `place` is 0 where none is named below. Where several refusals apply, the first in the call's order is given.
+ * Refusals. Every answer but tape_span begins with `refusal`, `block` and `place`. `refusal` 0 means accepted; `block` and `place` are then
+ * 0. Any other `refusal` is one of the numbers below; then every number after `place` is 0, and no buffer has been altered. `block` is 1 for
+ * a program file's data block, else 0. `place` is 0 where none is named below. Where several refusals apply, the first in the call's order
+ * is given.
  *
- * Pulses are full periods as counts of CPU cycles: 200 to 439 short, 440 to 607 medium, 608 to 959 long, all others noise.
+ * Pulses are full periods as counts of CPU cycles. 200 to 439 are short, 440 to 607 medium, 608 to 959 long, all others noise; written are
+ * 360, 520 and 688. A place is an index, from 0 on.
  */
 #ifndef CRUMBTHISTLE_H
 #define CRUMBTHISTLE_H
@@ -30,15 +32,15 @@ extern "C" {
 
 enum {
     TAPE_ACCEPTED = 0,
-    TAPE_WRONG_SIZE = 1,          /* n is 0 or over 8,192; over 1,048,576 durations; a name over 187 bytes; a header of not 192 bytes */
+    TAPE_WRONG_SIZE = 1,          /* n is 0 or over 8,192; over 1,048,576 durations to write; a name over 187 bytes; a header of not 192 */
     TAPE_NO_ROOM = 2,             /* an output is shorter than what must be put there */
-    TAPE_NO_START = 3,            /* no block starts at or after `from` */
+    TAPE_NO_START = 3,            /* there is no start: no 16 short pulses at or after `from` with a good byte $89 just after them */
     TAPE_CUT_SHORT = 4,           /* the pulses end before copy two does; place: the block's start */
-    TAPE_WRONG_COUNTDOWN = 5,     /* a countdown byte is wrong in both copies; place: which, 0 to 8 */
-    TAPE_LOST_BYTE = 6,           /* a byte is bad in both copies; place: which, 0 to n, n for the checksum */
+    TAPE_WRONG_COUNTDOWN = 5,     /* a countdown byte is wrong in copy one ($89 ..) and in copy two ($09 ..); place: the first such, 0 to 8 */
+    TAPE_LOST_BYTE = 6,           /* a byte is bad in both copies; place: the first such, 0 to n, n for the checksum */
     TAPE_WRONG_CHECKSUM = 7,      /* the repaired bytes do not fit the checksum; place: n */
     TAPE_WRONG_TYPE = 8,          /* a program file's type is not 1 or 3; a lone header's not 1 to 5 */
-    TAPE_WRONG_ADDRESSES = 9,     /* end is not above start, or over 8,192 above it, or, in writing, not start plus the bytes lent */
+    TAPE_WRONG_ADDRESSES = 9,     /* end is not above start, or over 8,192 above it, or, in writing, not start plus the number of bytes */
     TAPE_WRONG_TAP_HEADER = 10,   /* TAP: under 20 bytes, wrong letters, reserved bytes not zero, or a wrong data count */
     TAPE_WRONG_TAP_VERSION = 11,  /* TAP: version above 1 */
     TAPE_CUT_LONG_FORM = 12,      /* TAP version 1: a zero byte with fewer than three bytes after it; place: its index in the data */
@@ -66,21 +68,23 @@ typedef struct { uint32_t refusal, block; uint64_t place; uint64_t count; } tape
 /* What the block reader answers: the payload bytes put, the place where the countdown starts, and the place after copy two. */
 typedef struct { uint32_t refusal, block; uint64_t place; uint64_t n, start, end; } tape_block;
 
-/* What the file reader answers: type, start and end address (one past the last byte), and `stop`, the end of the data block. */
+/* What the file reader answers: type, start and end address (one past the last byte), and `stop`, the place after the data block's copy
+ * two. */
 typedef struct { uint32_t refusal, block; uint64_t place; uint32_t type, start, end; uint64_t stop; } tape_file;
 
 /* What the TAP reader answers: the version, and how many durations were put. */
 typedef struct { uint32_t refusal, block; uint64_t place; uint32_t version; uint64_t count; } tape_tap;
 
-/* A part of a lent buffer. */
+/* A part of a buffer. */
 typedef struct { uint64_t offset, length; } tape_span;
 
 /* Writes a block: a leader of that many short pulses, and the n payload bytes with countdown and checksum, twice. `out` has `room` places
  * and needs TAPE_BLOCK_PULSES(n, leader). Refuses, in this order: 1, 14, 2. */
 tape_put tape_write_block(const uint8_t *payload, size_t n, uint64_t leader, uint32_t *out, size_t room);
 
-/* Reads the first block at or after place `from` of the pulses, as one of n payload bytes, and puts these at the beginning of `out`. A byte
- * that is bad in one copy is taken from the other. `out` needs n places. Refuses, in this order: 1, 2, 3, 4, 5, 6, 7. */
+/* Reads a block of n payload bytes and puts these at the beginning of `out`, which needs n places. The block begins at the first start: the
+ * smallest place with 16 short pulses just before it, all at or after `from`, and a good byte $89 there. Copy one's byte counts where it is
+ * good, else copy two's. Refuses, in this order: 1, 2, 3, 4, 5, 6, 7. */
 tape_block tape_read_block(const uint32_t *pulses, size_t count, size_t from, size_t n, uint8_t *out, size_t room);
 
 /* Writes a program file: a header block and a data block, each with a leader of its own. The type is 1 or 3, `end` is `start` plus `len`,
@@ -89,46 +93,51 @@ tape_block tape_read_block(const uint32_t *pulses, size_t count, size_t from, si
 tape_put tape_write_file(uint8_t type, uint16_t start, uint16_t end, const uint8_t *name, size_t name_len,
                          const uint8_t *bytes, size_t len, uint64_t leader0, uint64_t leader1, uint32_t *out, size_t room);
 
-/* Reads the program file whose header is the first block at or after place `from`: puts the header at the beginning of `header`, which
- * needs 192 bytes, and the program at the beginning of `data`, which needs end minus start, at most 8,192. Neither is touched unless both
- * blocks are accepted. To look for a next file, read from `stop` on. Refuses, in this order: 3 to 7 for the header (block 0), 8, 9, 2,
+/* Reads a program file: a header block as tape_read_block reads one of 192 bytes from `from` on, then the data block from the header's end
+ * on. Puts the header at the beginning of `header`, which needs 192 bytes, and the program at the beginning of `data`, which needs end minus
+ * start, at most 8,192. Neither is touched unless both blocks are accepted. Refuses, in this order: 3 to 7 for the header (block 0), 8, 9, 2,
  * 3 to 7 for the data (block 1).
  *
- * Whatever a tape does to a file within the damage that the specification describes (up to three pulses wrong in one copy of each byte),
- * this returns exactly the file that was written. */
+ * A next file is read from `stop` on. After a refusal, tape_read_block with n = 192 tells where a header stands that can be read; go on from
+ * its `end`.
+ *
+ * Damage. A strip as long as tape_write_file wrote it, read from place 0 with enough room, gives exactly the file that was written, if in
+ * each block the leader, the 61 pulses after each copy and copy one's first byte keep their classes, and at each byte place one copy keeps
+ * its classes and in the other at most three of the twenty pulses have another. */
 tape_file tape_read_file(const uint32_t *pulses, size_t count, size_t from, uint8_t *header, size_t header_room,
                          uint8_t *data, size_t data_room);
 
-/* Puts a header together at the beginning of `out`, which needs 192 bytes. Refuses, in this order: 1 for the name, 8, 2. */
+/* Puts a header together at the beginning of `out`, which needs 192 bytes. The addresses may be any. Refuses, in this order: 1 for the name,
+ * 8, 2. */
 tape_put tape_pack_header(uint8_t type, uint16_t start, uint16_t end, const uint8_t *name, size_t name_len, uint8_t *out, size_t room);
 
-/* Takes a header of 192 bytes apart; `stop` is 0. Refuses, in this order: 1, 8. */
+/* Type and addresses of a header of 192 bytes; `stop` is 0. Refuses, in this order: 1, 8. */
 tape_file tape_unpack_header(const uint8_t *header, size_t len);
 
-/* Where the shown name stands in a header: the first 16 bytes of the name without the spaces at their end. `offset` and `length` are 0 for
- * bytes that tape_unpack_header refuses; a name of spaces has length 0. */
+/* Where the shown name stands in a header: the first 16 bytes of the name, from offset 5 on, without the spaces at their end. A name of
+ * spaces has length 0. `offset` and `length` are both 0 for bytes that tape_unpack_header refuses. */
 tape_span tape_shown_name(const uint8_t *header, size_t len);
 
 /* Writes durations, in cycles, as a TAP file of version 0 or 1. Version 0 has a form for the multiples of 8 from 8 to 2,048, version 1 for 0
- * and the multiples of 8 up to 134,217,720. `out` needs 20 bytes, and 1 to 4 for each duration. Refuses, in this order: 1, 11, 13, 2. */
+ * and the multiples of 8 up to 134,217,720. `out` needs 20 bytes, and 1 or 4 for each duration. Refuses, in this order: 1, 11, 13, 2. */
 tape_put tape_write_tap(const uint32_t *durations, size_t count, uint8_t version, uint8_t *out, size_t room);
 
 /* Reads a TAP file, and puts its durations, in cycles, at the beginning of `out`: at most one for each byte after the first 20. Refuses, in
  * this order: 10 for length and letters, 11, 10 for reserved bytes and count, 12, 2. */
 tape_tap tape_read_tap(const uint8_t *file, size_t len, uint32_t *out, size_t room);
 
-/* Bytes of stack that a call needs, its return address with it, read off the machine code of this archive (tests/stack); memcpy and memset
- * of the C library come on top. */
+/* Bytes of stack that each call needs, with its return address: read off the machine code of this archive and rounded up to a multiple of
+ * 16. What memcpy and memset of the C library need is not counted. */
 enum {
     TAPE_STACK_WRITE_BLOCK = 752,
-    TAPE_STACK_READ_BLOCK = 1296,
+    TAPE_STACK_READ_BLOCK = 1328,
     TAPE_STACK_WRITE_FILE = 1184,
-    TAPE_STACK_READ_FILE = 1600,
+    TAPE_STACK_READ_FILE = 1632,
     TAPE_STACK_PACK_HEADER = 240,
     TAPE_STACK_UNPACK_HEADER = 16,
     TAPE_STACK_SHOWN_NAME = 16,
-    TAPE_STACK_WRITE_TAP = 48,
-    TAPE_STACK_READ_TAP = 64
+    TAPE_STACK_WRITE_TAP = 64,
+    TAPE_STACK_READ_TAP = 96
 };
 
 #ifdef __cplusplus

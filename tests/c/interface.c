@@ -1,4 +1,4 @@
-/* The C interface as a C program sees it: the layout of the structs, null pointers with length 0, and the stack that each call uses. */
+/* The C interface as a C program sees it: layout and numbers, null pointers with length 0, and the stack that each call uses. */
 #include <stdio.h>
 #include <stdlib.h>
 #include <string.h>
@@ -8,46 +8,136 @@
 
 #define EXPECT(fact) ((fact) ? (void)0 : (printf("not so: line %d: %s\n", __LINE__, #fact), exit(1)))
 
-enum { LEADER = 64, PULSES = TAPE_FILE_PULSES(TAPE_MOST_BYTES, LEADER, LEADER), STACK = 1 << 16, PAINT = 0xA5, OWN = 512 };
+enum { LEADER0 = 64, LEADER1 = 100, START = 0x0801, N = TAPE_MOST_BYTES };
+enum { PULSES = TAPE_FILE_PULSES(N, LEADER0, LEADER1), STACK = 1 << 16, PAINT = 0xA5, FRAME = 128 };
 
-static uint8_t bytes[TAPE_MOST_BYTES], data[TAPE_MOST_BYTES], header[TAPE_HEADER_BYTES], tap[TAPE_TAP_HEADER_BYTES + PULSES];
+static uint8_t bytes[N], data[N], header[TAPE_HEADER_BYTES], tap[TAPE_TAP_HEADER_BYTES + PULSES];
 static uint32_t pulses[PULSES], block[PULSES];
 static size_t count, block_count, tap_len;
 
-static void layout(void)
+/* Layout and numbers, as the library has them. */
+#define AT(type, field, offset) _Static_assert(offsetof(type, field) == (offset), #type "." #field)
+#define FRONT(type, size) AT(type, refusal, 0); AT(type, block, 4); AT(type, place, 8); _Static_assert(sizeof(type) == (size), #type)
+FRONT(tape_put, 24); AT(tape_put, count, 16);
+FRONT(tape_block, 40); AT(tape_block, n, 16); AT(tape_block, start, 24); AT(tape_block, end, 32);
+FRONT(tape_file, 40); AT(tape_file, type, 16); AT(tape_file, start, 20); AT(tape_file, end, 24); AT(tape_file, stop, 32);
+FRONT(tape_tap, 32); AT(tape_tap, version, 16); AT(tape_tap, count, 24);
+AT(tape_span, offset, 0); AT(tape_span, length, 8); _Static_assert(sizeof(tape_span) == 16, "tape_span");
+
+/* Each refusal that a small input gives, by its name. */
+static void refusals(void)
 {
-    EXPECT(sizeof(tape_put) == 24 && sizeof(tape_block) == 40 && sizeof(tape_file) == 40 && sizeof(tape_tap) == 32);
-    EXPECT(sizeof(tape_span) == 16 && offsetof(tape_file, stop) == 32 && offsetof(tape_tap, count) == 24);
+    uint8_t file[24] = "C64-TAPE-RAW\1\0\0\0\1\0\0\0\0";
+    uint32_t odd = 7;
+    EXPECT(tape_write_block(bytes, N + 1, LEADER0, block, PULSES).refusal == TAPE_WRONG_SIZE);
+    EXPECT(tape_write_block(bytes, N, LEADER0, block, TAPE_BLOCK_PULSES(N, LEADER0) - 1).refusal == TAPE_NO_ROOM);
+    EXPECT(tape_write_block(bytes, N, TAPE_LEAST_LEADER - 1, block, PULSES).refusal == TAPE_WRONG_LEADER);
+    EXPECT(tape_write_block(bytes, N, TAPE_MOST_LEADER + 1, block, PULSES).refusal == TAPE_WRONG_LEADER);
+    EXPECT(tape_write_file(1, 0, 1, bytes, TAPE_NAME_BYTES + 1, bytes, 1, LEADER0, LEADER1, pulses, PULSES).refusal == TAPE_WRONG_SIZE);
+    EXPECT(tape_write_file(2, 0, 1, bytes, 1, bytes, 1, LEADER0, LEADER1, pulses, PULSES).refusal == TAPE_WRONG_TYPE);
+    EXPECT(tape_write_file(1, 0, 2, bytes, 1, bytes, 1, LEADER0, LEADER1, pulses, PULSES).refusal == TAPE_WRONG_ADDRESSES);
+    EXPECT(tape_write_file(1, 0, 1, bytes, 1, bytes, 1, LEADER0, 0, pulses, PULSES).block == 1);
+    EXPECT(tape_read_tap(file, 20, pulses, PULSES).refusal == TAPE_WRONG_TAP_HEADER);
+    EXPECT(tape_read_tap(file, 21, pulses, PULSES).refusal == TAPE_CUT_LONG_FORM);
+    EXPECT(tape_write_tap(&odd, 1, 1, tap, sizeof tap).refusal == TAPE_NO_TAP_FORM);
+    EXPECT(tape_write_tap(&odd, 1, 2, tap, sizeof tap).refusal == TAPE_WRONG_TAP_VERSION);
+    EXPECT(tape_write_tap(&odd, TAPE_MOST_DURATIONS + 1, 1, tap, 0).refusal == TAPE_WRONG_SIZE);
 }
 
+/* A null pointer with length 0 is empty, where it is refused and where it is not. */
 static void null_pointers(void)
 {
-    EXPECT(tape_write_block(NULL, 0, LEADER, NULL, 0).refusal == TAPE_WRONG_SIZE);
+    uint8_t file[TAPE_TAP_HEADER_BYTES];
+    EXPECT(tape_write_block(NULL, 0, LEADER0, NULL, 0).refusal == TAPE_WRONG_SIZE);
     EXPECT(tape_read_block(NULL, 0, 0, 1, data, 1).refusal == TAPE_NO_START);
     EXPECT(tape_read_block(NULL, 0, 0, 1, NULL, 0).refusal == TAPE_NO_ROOM);
-    EXPECT(tape_write_file(1, 1, 2, NULL, 0, bytes, 1, LEADER, LEADER, NULL, 0).refusal == TAPE_NO_ROOM);
+    EXPECT(tape_write_file(1, 1, 2, NULL, 0, bytes, 1, LEADER0, LEADER1, NULL, 0).refusal == TAPE_NO_ROOM);
+    EXPECT(tape_write_file(1, 1, 2, NULL, 0, bytes, 1, LEADER0, LEADER1, pulses, PULSES).count == TAPE_FILE_PULSES(1, LEADER0, LEADER1));
     EXPECT(tape_read_file(NULL, 0, 0, NULL, 0, NULL, 0).refusal == TAPE_NO_START);
     EXPECT(tape_pack_header(1, 1, 2, NULL, 0, NULL, 0).refusal == TAPE_NO_ROOM);
+    EXPECT(tape_pack_header(1, 1, 2, NULL, 0, header, sizeof header).count == TAPE_HEADER_BYTES);
+    EXPECT(tape_shown_name(header, sizeof header).offset == 5 && tape_shown_name(header, sizeof header).length == 0);
     EXPECT(tape_unpack_header(NULL, 0).refusal == TAPE_WRONG_SIZE);
-    EXPECT(tape_shown_name(NULL, 0).length == 0);
+    EXPECT(tape_shown_name(NULL, 0).offset == 0 && tape_shown_name(NULL, 0).length == 0);
     EXPECT(tape_write_tap(NULL, 0, 1, NULL, 0).refusal == TAPE_NO_ROOM);
+    EXPECT(tape_write_tap(NULL, 0, 1, file, sizeof file).count == TAPE_TAP_HEADER_BYTES);
+    EXPECT(tape_read_tap(file, sizeof file, NULL, 0).refusal == TAPE_ACCEPTED);
     EXPECT(tape_read_tap(NULL, 0, NULL, 0).refusal == TAPE_WRONG_TAP_HEADER);
 }
 
-/* Each call once, accepted, in an order in which one makes the input of the next. */
-static void write_file(void) { count = tape_write_file(1, 0, TAPE_MOST_BYTES, bytes, 16, bytes, sizeof bytes, LEADER, LEADER, pulses, PULSES).count; }
-static void read_file(void) { EXPECT(tape_read_file(pulses, count, 0, header, sizeof header, data, sizeof data).stop == count - 61); }
-static void write_block(void) { block_count = tape_write_block(bytes, sizeof bytes, LEADER, block, PULSES).count; }
-static void read_block(void) { EXPECT(tape_read_block(block, block_count, 0, sizeof bytes, data, sizeof data).end == block_count - 61); }
-static void pack_header(void) { EXPECT(tape_pack_header(1, 0, 1, bytes, 16, header, sizeof header).count == sizeof header); }
-static void unpack_header(void) { EXPECT(tape_unpack_header(header, sizeof header).type == 1); }
-static void shown_name(void) { EXPECT(tape_shown_name(header, sizeof header).offset == 5); }
-static void write_tap(void) { tap_len = tape_write_tap(pulses, count, 1, tap, sizeof tap).count; }
-static void read_tap(void) { EXPECT(tape_read_tap(tap, tap_len, pulses, PULSES).count == count); }
+/* Each call once, accepted, with every number of its answer, in an order in which one makes the input of the next. */
+static void nothing(void) { }
 
-/* Runs a call on a painted stack and compares how far down the paint is gone with what the header states, and what this program's own
- * frames take. */
-static void on_painted_stack(const char *name, void (*call)(void), size_t stated)
+static void write_file(void)
+{
+    count = tape_write_file(3, START, START + N, bytes, 16, bytes, N, LEADER0, LEADER1, pulses, PULSES).count;
+    EXPECT(count == TAPE_FILE_PULSES(N, LEADER0, LEADER1));
+}
+
+static void read_file(void)
+{
+    tape_file f = tape_read_file(pulses, count, 0, header, sizeof header, data, sizeof data);
+    EXPECT(f.refusal == TAPE_ACCEPTED && f.type == 3 && f.start == START && f.end == START + N && f.stop == count - 61);
+}
+
+static void write_block(void)
+{
+    block_count = tape_write_block(bytes, N, LEADER1, block, PULSES).count;
+    EXPECT(block_count == TAPE_BLOCK_PULSES(N, LEADER1));
+}
+
+static void read_block(void)
+{
+    tape_block b = tape_read_block(block, block_count, 0, N, data, sizeof data);
+    EXPECT(b.refusal == TAPE_ACCEPTED && b.n == N && b.start == LEADER1 && b.end == block_count - 61);
+}
+
+static void pack_header(void)
+{
+    EXPECT(tape_pack_header(4, 1, 2, bytes, 16, header, sizeof header).count == TAPE_HEADER_BYTES);
+}
+
+static void unpack_header(void)
+{
+    tape_file f = tape_unpack_header(header, sizeof header);
+    EXPECT(f.refusal == TAPE_ACCEPTED && f.type == 4 && f.start == 1 && f.end == 2 && f.stop == 0);
+}
+
+static void shown_name(void)
+{
+    tape_span name = tape_shown_name(header, sizeof header);
+    EXPECT(name.offset == 5 && name.length == 16);
+}
+
+static void write_tap(void)
+{
+    tap_len = tape_write_tap(pulses, count, 1, tap, sizeof tap).count;
+    EXPECT(tap_len == TAPE_TAP_HEADER_BYTES + count);
+}
+
+static void read_tap(void)
+{
+    tape_tap t = tape_read_tap(tap, tap_len, pulses, PULSES);
+    EXPECT(t.refusal == TAPE_ACCEPTED && t.version == 1 && t.count == count);
+}
+
+/* Refusals of a damaged block: what they are called, and their places. */
+static void spoilt(void)
+{
+    size_t one = LEADER1, two = LEADER1 + 20 * (N + 10) + 61;
+    tape_block b = tape_read_block(block, block_count - 62, 0, N, data, sizeof data);
+    EXPECT(b.refusal == TAPE_CUT_SHORT && b.place == LEADER1 && b.n == 0 && b.start == 0 && b.end == 0);
+    block[one + 20 * 11] = block[two + 20 * 11] = 0;
+    b = tape_read_block(block, block_count, 0, N, data, sizeof data);
+    EXPECT(b.refusal == TAPE_LOST_BYTE && b.place == 2);
+    block[one + 20 * 3] = block[two + 20 * 3] = 0;
+    b = tape_read_block(block, block_count, 0, N, data, sizeof data);
+    EXPECT(b.refusal == TAPE_WRONG_COUNTDOWN && b.place == 3);
+    EXPECT(tape_read_block(block, block_count, LEADER1, N, data, sizeof data).refusal == TAPE_NO_START);
+}
+
+/* Runs a call on a painted stack, and answers how far down the paint is gone. */
+static size_t stack_of(void (*call)(void))
 {
     static uint8_t stack[STACK];
     static ucontext_t here, there;
@@ -58,12 +148,18 @@ static void on_painted_stack(const char *name, void (*call)(void), size_t stated
     there.uc_link = &here;
     makecontext(&there, call, 0);
     swapcontext(&here, &there);
-    size_t free_bytes = 0;
-    while (free_bytes < sizeof stack && stack[free_bytes] == PAINT)
-        free_bytes++;
-    size_t used = sizeof stack - free_bytes;
-    if (used > stated + OWN) {
-        printf("%s used %zu bytes of stack with its caller, the header states %zu\n", name, used, stated);
+    size_t untouched = 0;
+    while (untouched < sizeof stack && stack[untouched] == PAINT)
+        untouched++;
+    return sizeof stack - untouched;
+}
+
+/* No call uses more than the header states, beside what this program's own function takes. */
+static void on_painted_stack(const char *name, void (*call)(void), size_t stated)
+{
+    size_t used = stack_of(call) - stack_of(nothing);
+    if (used > stated + FRAME) {
+        printf("%s used %zu bytes of stack, the header states %zu\n", name, used, stated);
         exit(1);
     }
 }
@@ -71,19 +167,20 @@ static void on_painted_stack(const char *name, void (*call)(void), size_t stated
 int main(void)
 {
     for (size_t i = 0; i < sizeof bytes; i++)
-        bytes[i] = (uint8_t)(i * 7 + i / 256);
-    layout();
+        bytes[i] = (uint8_t)(i * 7 + i / 256 + 1);
+    refusals();
     null_pointers();
     on_painted_stack("tape_write_file", write_file, TAPE_STACK_WRITE_FILE);
     on_painted_stack("tape_read_file", read_file, TAPE_STACK_READ_FILE);
     on_painted_stack("tape_write_block", write_block, TAPE_STACK_WRITE_BLOCK);
     on_painted_stack("tape_read_block", read_block, TAPE_STACK_READ_BLOCK);
+    EXPECT(memcmp(bytes, data, sizeof data) == 0);
     on_painted_stack("tape_pack_header", pack_header, TAPE_STACK_PACK_HEADER);
     on_painted_stack("tape_unpack_header", unpack_header, TAPE_STACK_UNPACK_HEADER);
     on_painted_stack("tape_shown_name", shown_name, TAPE_STACK_SHOWN_NAME);
     on_painted_stack("tape_write_tap", write_tap, TAPE_STACK_WRITE_TAP);
     on_painted_stack("tape_read_tap", read_tap, TAPE_STACK_READ_TAP);
-    EXPECT(memcmp(bytes, data, sizeof data) == 0);
+    spoilt();
     puts("the C interface is as its header says");
     return 0;
 }
