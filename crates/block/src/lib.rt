@@ -55,7 +55,7 @@ const SYNC_SHORTS: usize = 16;
 const SYNC_BYTE: u8 = 0x89;
 
 // The reader's row of flags: one for each place of the largest payload and one for the checksum's, eight to a byte.
-const FLAG_BYTES: usize = MOST_BYTES / 8 + 1;
+const FLAG_BYTES: usize = MOST_BYTES / lists::BYTE_FLAGS + 1;
 
 // Where an accepted block stands: its payload bytes, its start, and the place after copy two.
 pub struct Extent {
@@ -284,8 +284,8 @@ fn find_start(t: Thresholds, strip: &[u32], from: usize) -> Found
     }
 }
 
-// Rules 2 to 5, for a start that was found. Nothing is put before all of them hold. A row of flags
-// keeps the places whose value is copy two's.
+// Rules 2 to 5, for a start that was found. Nothing is put before all of them hold. A row of flags keeps the places whose value is copy
+// two's.
 fn read_at(t: Thresholds, strip: &[u32], start: usize, n: usize, out: &mut [u8]) -> BlockAnswer
     requires { ⌜ (start ≤ length (now strip)) × (n ≤ 8192) × (n ≤ length (now out)) ⌝ }
     ensures { λ r. ⌜ Reads (readAt (classes t (now (strip .entry))) start n) (now (out .entry)) r (now (out .exit)) ⌝ }

@@ -3,7 +3,6 @@ use Prim.Native.Nat.{ℕ, zero, suc, _+_, _-_, _≤_, _<_}
 use native.Mathlib.Nat.{add-zero}
 use native.Mathlib.Numerals.{add-one}
 use native.Mathlib.Omega.{arith}
-use native.Mathlib.Decide.{decLt}
 use mathlib.Core.Path.{_≡_, refl, sym, ap, ap₂, _∙_}
 use mathlib.Core.Bool.{Bool, true, false}
 use mathlib.Core.List.{List, [], _∷_, _++_}
@@ -37,16 +36,6 @@ module _ (f : ℕ → Bool) (n : ℕ) where
   pub first-over : (i : ℕ) → n ≤ i → firstLeft i ≡ none
   unfolding firstFrom
   first-over i h = let z : n - i ≡ 0 = omega arith in rw z
-
-  -- a search that begins past numbers that do not pass
-  pub first-skipped : (i : ℕ) → ((k : ℕ) → k < i → f k ≡ false) → firstLeft i ≡ firstFrom f n 0
-  first-skipped zero h = first-begun
-  first-skipped (suc i) h =
-      let r = first-skipped i (λ k l. h k (omega arith)) in
-      elim (decLt i n) [
-        | yes l ↦ ap firstLeft (sym (add-one i)) ∙ first-passed i l (h i (omega arith)) ∙ r
-        | no l ↦ first-over (suc i) (omega arith) ∙ sym (first-over i (omega arith)) ∙ r
-      ]
 
 -- ---- A list by its places
 

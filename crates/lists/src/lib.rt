@@ -22,7 +22,7 @@ pub fn put_bytes(values: &[u8], out: &mut [u8], at: usize)
 }
 
 // Flags that a byte of a row holds.
-const BYTE_FLAGS: usize = 8;
+pub const BYTE_FLAGS: usize = 8;
 
 // Whether a flag of a row is raised; past the row's end none is.
 pub fn flag(row: &[u8], i: usize) -> bool
