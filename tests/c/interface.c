@@ -121,12 +121,24 @@ static void read_tap(void)
     EXPECT(t.refusal == TAPE_ACCEPTED && t.version == 1 && t.count == count);
 }
 
+/* Turns a bit round: its two pulses change places. */
+static void turn(uint32_t *bit)
+{
+    uint32_t first = bit[0];
+    bit[0] = bit[1];
+    bit[1] = first;
+}
+
 /* Refusals of a damaged block: what they are called, and their places. */
 static void spoilt(void)
 {
     size_t one = LEADER1, two = LEADER1 + 20 * (N + 10) + 61;
     tape_block b = tape_read_block(block, block_count - 62, 0, N, data, sizeof data);
     EXPECT(b.refusal == TAPE_CUT_SHORT && b.place == LEADER1 && b.n == 0 && b.start == 0 && b.end == 0);
+    turn(block + one + 20 * 9 + 2);
+    turn(block + one + 20 * 9 + 4);
+    b = tape_read_block(block, block_count, 0, N, data, sizeof data);
+    EXPECT(b.refusal == TAPE_WRONG_CHECKSUM && b.place == N);
     block[one + 20 * 11] = block[two + 20 * 11] = 0;
     b = tape_read_block(block, block_count, 0, N, data, sizeof data);
     EXPECT(b.refusal == TAPE_LOST_BYTE && b.place == 2);
