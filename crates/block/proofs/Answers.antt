@@ -15,26 +15,25 @@ use Rattle.lists.proofs.BufferLaws.{put-room}
 use Rattle.refusal.specs.declared.Reason.{Reason}
 use Rattle.refusal.specs.declared.Reason.the-variants.{WrongSize, NoRoom, NoStart, CutShort, WrongCountdown, LostByte, WrongChecksum}
 use Rattle.refusal.specs.Refusal.{Outcome, accepted, refuse, refusalAt}
-use Rattle.refusal.proofs.OutcomeLaws.{mapped-refused, told-refused, puts-refused}
+use Rattle.refusal.proofs.OutcomeLaws.{puts-refused}
 use Rattle.pulse.specs.declared.Thresholds.{Thresholds}
 use Rattle.pulse.specs.declared.Class.{Class}
 use Rattle.pulse.specs.Pulse.{classOf, classes}
 use Rattle.block.specs.declared.BlockAnswer.{BlockAnswer}
 use Rattle.block.specs.declared.BlockAnswer.the-variants.{Accepted, Refused}
-use Rattle.block.specs.declared.Check.{Check}
-use Rattle.block.specs.declared.Check.the-variants.{Sound, LostAt, WrongSum}
-use Rattle.block.specs.declared.Found.{Found}
-use Rattle.block.specs.declared.Found.the-variants.{At, Nothing}
+use Rattle.block.specs.declared.read.Check.{Check}
+use Rattle.block.specs.declared.read.Check.the-variants.{Sound, LostAt, WrongSum}
+use Rattle.start.specs.declared.Found.{Found}
+use Rattle.start.specs.declared.Found.the-variants.{At, Nothing}
+use Rattle.start.specs.Start.{isStart, startOf, foundAt}
 use Rattle.block.specs.Block.{wrongSize}
-use Rattle.block.specs.Reading.{isStart, startOf, copyTwo, endOf, isMiscounted, isLost, valueAt, valuesAt, sumHolds, BlockRead, extentOf, payloadOf, blockAt, readCopies, readAt, readFound, readFrom, readBlock, blockAnswer, Reads}
-use Rattle.block.specs.Checks.{foundAt, checkOf, Checked, pickedAt}
+use Rattle.block.specs.Reading.{copyTwo, endOf, isMiscounted, isLost, valueAt, valuesAt, sumHolds, BlockRead, extentOf, payloadOf, blockAt, readCopies, readAt, readFound, readFrom, readBlock, blockAnswer, Reads}
+use Rattle.block.specs.private.Checks.{checkOf, Checked, pickedAt}
 use Rattle.block.proofs.Checking.{picked-values}
 
 pub met-refused : (o : Outcome BlockRead) (out : List ℕ) (reason : Reason) {place : ℕ} {r : BlockAnswer} → o ≡ refuse reason place → r ≡ Refused (refusalAt reason place)
     → Reads o out r out
-met-refused o out reason {place} e q =
-    let s = refusalAt reason place in
-    (ap blockAnswer q ∙ told-refused s e extentOf refl, puts-refused s out (mapped-refused s e payloadOf))
+met-refused o out reason e q = rw (e, q) (refl, puts-refused out)
 
 -- ---- What rules 4 and 5 found
 

@@ -26,11 +26,11 @@ use Rattle.byte.specs.declared.ByteRead.the-variants.{Good, Bad}
 use Rattle.byte.specs.Byte.{byteAt, isBad}
 use Rattle.byte.specs.Decoder.{bitsAt}
 use Rattle.byte.proofs.ValueLaws.{good-bits}
-use Rattle.block.specs.declared.Check.{Check}
-use Rattle.block.specs.declared.Check.the-variants.{Sound, LostAt, WrongSum}
+use Rattle.block.specs.declared.read.Check.{Check}
+use Rattle.block.specs.declared.read.Check.the-variants.{Sound, LostAt, WrongSum}
 use Rattle.block.specs.Block.{xorFrom, checksum}
-use Rattle.block.specs.Reading.{repaired, placeAt, isLost, valueOrZero, valueAt, valuesAt, sumHolds}
-use Rattle.block.specs.Checks.{checkOf, badInOne, flagged, Down, Flags, Checked, soundAt, pickedAt}
+use Rattle.block.specs.Reading.{Place, FromOne, FromTwo, Lost, placeOf, noValue, placeValue, placeAt, isLost, valueAt, valuesAt, sumHolds}
+use Rattle.block.specs.private.Checks.{checkOf, readAs, badInOne, flagged, Down, Flags, Checked, soundAt, pickedAt}
 
 -- ---- The sum: with the checksum XORed too it is 0 exactly where the checksum holds
 
@@ -71,7 +71,7 @@ module _ (cs : List Class) (one two i : ℕ) (row₀ : List ℕ) where
   Turn row from = ((from ≡ one + at) × (row ≡ row₀)) ⊎ ((from ≡ two + at) × ((byteAt cs (one + at) ≡ Bad) × (row ≡ raised row₀ i)))
 
   abbrev Placed : (r : ByteRead) (row : List ℕ) → Type 0
-  Placed r row = (r ≡ placeAt cs one two i) × (row ≡ flagged cs one i row₀)
+  Placed r row = (r ≡ readAs (placeAt cs one two i)) × (row ≡ flagged cs one i row₀)
 
   module _ {row : List ℕ} {from : ℕ} (u : Turn row from) where
     pub turn-long : length row ≡ length row₀
@@ -84,14 +84,14 @@ module _ (cs : List Class) (one two i : ℕ) (row₀ : List ℕ) where
     unfolding placeAt
     turn-good e = elim u [
       | inl h ↦ (let g = ap (byteAt cs) (sym (h .0)) ∙ e in (rw g, rw g (h .1)))
-      | inr h ↦ (let g = ap (byteAt cs) (sym (h .0)) ∙ e in (rw (h .1 .0) (sym g), rw (h .1 .0) (h .1 .1)))
+      | inr h ↦ (let g = ap (byteAt cs) (sym (h .0)) ∙ e in (rw (h .1 .0, g), rw (h .1 .0) (h .1 .1)))
     ]
 
     pub turn-lost : one < two → from ≡ two + at → byteAt cs from ≡ Bad → Placed Bad row
     unfolding placeAt
     turn-lost apart last e = elim u [
       | inl h ↦ absurd (let q = h .0 in omega arith)
-      | inr h ↦ (let g = ap (byteAt cs) (sym (h .0)) ∙ e in (rw (h .1 .0) (sym g), rw (h .1 .0) (h .1 .1)))
+      | inr h ↦ (let g = ap (byteAt cs) (sym (h .0)) ∙ e in (rw (h .1 .0, g), rw (h .1 .0) (h .1 .1)))
     ]
 
     pub turn-next : {row′ : List ℕ} → (from ≡ two + at → ⊥) → byteAt cs from ≡ Bad → row′ ≡ raised row i → Turn row′ (two + at)
@@ -99,6 +99,17 @@ module _ (cs : List Class) (one two i : ℕ) (row₀ : List ℕ) where
       | inl h ↦ inr (refl, (ap (byteAt cs) (sym (h .0)) ∙ e, f ∙ ap (λ r. raised r i) (h .1)))
       | inr h ↦ absurd (first (h .0))
     ]
+
+-- what a place was read as tells whether it is lost, and its value
+read-lost : (p : Place) → readAs p ≡ Bad → noValue p ≡ true
+read-lost (FromOne v) e = absurd (let z : _≡_ {A = ℕ} 0 1 = cc in omega arith)
+read-lost (FromTwo v) e = absurd (let z : _≡_ {A = ℕ} 0 1 = cc in omega arith)
+read-lost Lost e = refl
+
+read-good : (p : Place) {v : ℕ} → readAs p ≡ Good v → (noValue p ≡ false) × (placeValue p ≡ v)
+read-good (FromOne w) e = (refl, cc)
+read-good (FromTwo w) e = (refl, cc)
+read-good Lost e = absurd (let z : _≡_ {A = ℕ} 0 1 = cc in omega arith)
 
 -- ---- Places 0 to n
 
@@ -122,25 +133,26 @@ begun cs one two n row down = record {
 }
 
 module _ {cs : List Class} {one two n : ℕ} {row₀ row : List ℕ} {sum i : ℕ} (u : Checking cs one two n row₀ row sum i) where
-  pub lost : {row′ : List ℕ} → i ≤ n → placeAt cs one two i ≡ Bad → Checked cs one two n (LostAt i) row′
+  pub lost : {row′ : List ℕ} → i ≤ n → readAs (placeAt cs one two i) ≡ Bad → Checked cs one two n (LostAt i) row′
   lost h e =
-      let f = sym (u .left) ∙ first-here (isLost cs one two) (n + 1) i (omega arith) (ap isBad e) in
+      let f = sym (u .left) ∙ first-here (isLost cs one two) (n + 1) i (omega arith) (read-lost (placeAt cs one two i) e) in
       record {
         says = ap (λ o. checkOf o (sumHolds cs one two n)) (sym f);
         flags = λ g. absurd (let z : _≡_ {A = ℕ} 0 1 = cc in omega arith);
       }
 
-  pub next : {row′ : List ℕ} {v : ℕ} → i ≤ n → n < 8 * length row₀ → placeAt cs one two i ≡ Good v → row′ ≡ flagged cs one i row
+  pub next : {row′ : List ℕ} {v : ℕ} → i ≤ n → n < 8 * length row₀ → readAs (placeAt cs one two i) ≡ Good v → row′ ≡ flagged cs one i row
       → Checking cs one two n row₀ row′ (bitXor sum v) (i + 1)
   unfolding xorFrom
   next h room e f =
       let long = u .long in
       let t = badInOne cs one i in
+      let p = read-good (placeAt cs one two i) e in
       record {
         few = omega arith;
-        left = first-passed (isLost cs one two) (n + 1) i (omega arith) (ap isBad e) ∙ u .left;
+        left = first-passed (isLost cs one two) (n + 1) i (omega arith) (p .0) ∙ u .left;
         summed =
-            ap (λ v. xorFrom (bitXor sum v) (tableLeft (valueAt cs one two) (n + 1) (i + 1))) (sym (ap valueOrZero e))
+            ap (λ v. xorFrom (bitXor sum v) (tableLeft (valueAt cs one two) (n + 1) (i + 1))) (sym (p .1))
             ∙ ap (xorFrom sum) (sym (table-next (valueAt cs one two) (n + 1) i (omega arith)))
             ∙ u .summed;
         long = ap length f ∙ length-flag t row i ∙ long;
@@ -183,8 +195,8 @@ module _ (t : Thresholds) (strip : List ℕ) (one two n : ℕ) where
   cs = classes t strip
 
   -- the value of a place that is not lost
-  picked : (at : ℕ) (a b : ByteRead) → byteAt cs (one + at) ≡ a → byteAt cs (two + at) ≡ b → isBad (repaired a b) ≡ false
-      → bitsAt t strip (cond (isBad a) two one + at) ≡ valueOrZero (repaired a b)
+  picked : (at : ℕ) (a b : ByteRead) → byteAt cs (one + at) ≡ a → byteAt cs (two + at) ≡ b → noValue (placeOf a b) ≡ false
+      → bitsAt t strip (cond (isBad a) two one + at) ≡ placeValue (placeOf a b)
   picked at (Good v) b p q h = good-bits t strip (one + at) p
   picked at Bad (Good v) p q h = good-bits t strip (two + at) q
   picked at Bad Bad p q h = absurd (let z : _≡_ {A = ℕ} 0 1 = cc in omega arith)

@@ -21,6 +21,7 @@ use Rattle.lists.proofs.BufferLaws.{part-put}
 use Rattle.refusal.specs.declared.Reason.the-variants.{NoRoom}
 use Rattle.refusal.specs.Refusal.{accepted, refusalAt}
 use Rattle.refusal.proofs.OutcomeLaws.{accepted-next, then-accepted}
+use Rattle.pulse.specs.declared.Thresholds.{Thresholds}
 use Rattle.pulse.specs.declared.Class.{Class}
 use Rattle.pulse.specs.declared.Class.the-variants.{Short, Noise}
 use Rattle.pulse.specs.Pulse.{fixed, classOf, classes, writtenAs}
@@ -30,18 +31,26 @@ use Rattle.byte.specs.declared.ByteRead.the-variants.{Good}
 use Rattle.byte.specs.Byte.{byteClasses, twenty, byteAt, isGood, isBad}
 use Rattle.byte.proofs.ByteLaws.{byteAt-written}
 use Rattle.byte.proofs.DamageLaws.{differ-self, byteAt-differ}
+use Rattle.start.specs.Start.{startOf}
 use Rattle.block.specs.Block.{checksum, copyBytes, trailer, blockClasses, blockPulses, wrongSize, measureBlock, writeBlock}
-use Rattle.block.specs.Reading.{startOf, copyTwo, endOf, counted, isMiscounted, repaired, placeAt, isLost, valueAt, valuesAt, blockAt, readCopies, readAt, readFound, readFrom, readBlock}
+use Rattle.block.specs.Reading.{copyTwo, endOf, counted, isMiscounted, Place, noValue, placeValue, placeOf, placeAt, isLost, valueAt, valuesAt, blockAt, readCopies, readAt, readFound, readFrom, readBlock}
 use Rattle.block.specs.Damage.{OneSound, DamagedClasses, Damaged}
 use Rattle.block.proofs.BlockLaws.{copy-countdown, copy-value, below-copy, length-blockPulses, leader-right, measure-accepted, leader-at, one-at, two-at, after-at}
-use Rattle.block.proofs.StartLaws.{start-short}
-use Rattle.block.proofs.ReadingLaws.{repaired-one, repaired-two, read-room}
+use Rattle.start.proofs.StartLaws.{start-short}
+use Rattle.block.proofs.ReadingLaws.{place-one, place-two, read-room}
 
 -- ---- A byte place of which one copy is sound
 
-repaired-right : (a : ℕ) (one two : ByteRead) → (isBad one ≡ true) ⊎ (one ≡ Good a) → two ≡ Good a → repaired one two ≡ Good a
-repaired-right a one two (inl h) e = repaired-two one two h ∙ e
-repaired-right a one two (inr h) e = repaired-one a one two h
+-- the place has this value
+abbrev Right : (a : ℕ) → Place → Type 0
+Right a p = (noValue p ≡ false) × (placeValue p ≡ a)
+
+right-one : (a : ℕ) (one two : ByteRead) → one ≡ Good a → Right a (placeOf one two)
+right-one a one two e = rw (place-one a one two e) (refl, refl)
+
+right-two : (a : ℕ) (one two : ByteRead) → (isBad one ≡ true) ⊎ (one ≡ Good a) → two ≡ Good a → Right a (placeOf one two)
+right-two a one two (inl h) e = rw (place-two a one two h e) (refl, refl)
+right-two a one two (inr h) e = right-one a one two h
 
 module _ (cs : List Class) (one two a : ℕ) (small : a < 256) where
   -- in the countdown, with the value of each copy
@@ -52,11 +61,11 @@ module _ (cs : List Class) (one two a : ℕ) (small : a < 256) where
       or-right (isGood a (byteAt cs one)) (isGood b (byteAt cs two)) (rw (byteAt-written cs two b small′ (s .0)) (eq-eqb b b refl))
 
   -- after it, with one value
-  sound-repaired : one + 20 ≤ length cs → OneSound (byteClasses a) (twenty cs one) (byteClasses a) (twenty cs two)
-      → repaired (byteAt cs one) (byteAt cs two) ≡ Good a
-  sound-repaired within (inl s) = repaired-one a (byteAt cs one) (byteAt cs two) (byteAt-written cs one a small (s .0))
-  sound-repaired within (inr s) =
-      repaired-right a (byteAt cs one) (byteAt cs two) (byteAt-differ cs one a small within (s .1)) (byteAt-written cs two a small (s .0))
+  sound-place : one + 20 ≤ length cs → OneSound (byteClasses a) (twenty cs one) (byteClasses a) (twenty cs two)
+      → Right a (placeOf (byteAt cs one) (byteAt cs two))
+  sound-place within (inl s) = right-one a (byteAt cs one) (byteAt cs two) (byteAt-written cs one a small (s .0))
+  sound-place within (inr s) =
+      right-two a (byteAt cs one) (byteAt cs two) (byteAt-differ cs one a small within (s .1)) (byteAt-written cs two a small (s .0))
 
 -- ---- On classes
 
@@ -102,18 +111,18 @@ module _ (cs : List Class) (o k : ℕ) (payload : List ℕ) {n : ℕ} (long : le
       rw (← (copy-countdown 0 payload i h), ← (copy-countdown 1 payload i h))
       (sound-counted cs (one + 20 * i) (two + 20 * i) _ (below-copy 0 payload below i) _ (below-copy 1 payload below i) (sound i (omega arith)))
 
-  place-ok : (i : ℕ) → i < n + 1 → placeAt cs one two i ≡ Good (getD (payload ++ (checksum payload ∷ [])) i 0)
+  place-ok : (i : ℕ) → i < n + 1 → Right (getD (payload ++ (checksum payload ∷ [])) i 0) (placeAt cs one two i)
   unfolding placeAt
   place-ok i h =
       let s = sound (9 + i) (omega arith) in
       let b = below-copy 0 payload below (9 + i) in
-      sound-repaired cs (one + 20 * (9 + i)) (two + 20 * (9 + i)) (getD (payload ++ (checksum payload ∷ [])) i 0) (rw copy-value at b)
+      sound-place cs (one + 20 * (9 + i)) (two + 20 * (9 + i)) (getD (payload ++ (checksum payload ∷ [])) i 0) (rw copy-value at b)
       (omega arith) (rw (copy-value 0 payload i, copy-value 1 payload i) at s)
 
   values-ok : valuesAt cs one two n ≡ payload
   values-ok =
       ap (λ count. tabulate (valueAt cs one two) count 0) (sym long)
-      ∙ tabulate-is (valueAt cs one two) payload 0 (λ i h. rw (zero-add, place-ok i (omega arith)) (List·getD-append payload (checksum payload ∷ []) 0 i h))
+      ∙ tabulate-is (valueAt cs one two) payload 0 (λ i h. rw (zero-add, place-ok i (omega arith) .1) (List·getD-append payload (checksum payload ∷ []) 0 i h))
 
   -- rules 2 to 5, at the end of the leader
   pub read-there : readAt cs one n ≡ accepted (blockAt one n payload)
@@ -122,9 +131,9 @@ module _ (cs : List Class) (o k : ℕ) (payload : List ℕ) {n : ℕ} (long : le
       rw (
         le-ltb (length cs) (endOf one n) (omega arith),
         first-none (isMiscounted cs one two) 9 0 (λ i _ h. rw (counted-ok i (omega arith))),
-        first-none (isLost cs one two) (n + 1) 0 (λ i _ h. rw (place-ok i (omega arith))),
+        first-none (isLost cs one two) (n + 1) 0 (λ i _ h. place-ok i (omega arith) .0),
         values-ok,
-        place-ok n (omega arith),
+        place-ok n (omega arith) .1,
         getD-at payload (checksum payload) [] 0 n long,
         eq-eqb (checksum payload) (checksum payload) refl,
       )
@@ -143,43 +152,44 @@ module _ (cs : List Class) (o k : ℕ) (payload : List ℕ) {n : ℕ} (long : le
 
 -- ---- On pulses
 
--- The same of a strip of pulses, each any 32-bit count, classed with the fixed thresholds: it holds from place o on a stretch within the
+-- The same of a strip of pulses, each any 32-bit count, classed with any thresholds: it holds from place o on a stretch within the
 -- damage of a written block.
-module _ (strip : List ℕ) (o k : ℕ) (payload : List ℕ) {n : ℕ} (long : length payload ≡ n) (d : Damaged k payload (part strip o (length (blockPulses k payload)))) where
+module _ (t : Thresholds) (strip : List ℕ) (o k : ℕ) (payload : List ℕ) {n : ℕ} (long : length payload ≡ n)
+    (d : Damaged t k payload (part strip o (length (blockPulses k payload)))) where
   size-block : length (blockPulses k payload) ≡ k + 40 * (n + 10) + 122
   size-block = rw (← long) (length-blockPulses k payload)
 
   fits : o + (k + 40 * (n + 10) + 122) ≤ length strip
-  fits = let l = simp (length-take, length-drop) at (d .long) in omega (arith, size-block)
+  fits = let l = simp (length-take, length-drop) at (d .long) in omega (arith, size-block, length-map (blockClasses k payload) writtenAs)
 
-  kept : DamagedClasses k n (blockClasses k payload) (part (classes fixed strip) o (k + 40 * (n + 10) + 122))
-  kept = rw (part-map (classOf fixed) strip o (k + 40 * (n + 10) + 122), ← size-block) (rw (classes-pulses (blockClasses k payload), long) at (d .kept))
+  kept : DamagedClasses k n (blockClasses k payload) (part (classes t strip) o (k + 40 * (n + 10) + 122))
+  kept = rw (part-map (classOf t) strip o (k + 40 * (n + 10) + 122), ← size-block) (rw long at (d .kept))
 
   -- between the pulse after the block's end and the end of its trailer only short pulses stand
-  pub after-short : (i : ℕ) → endOf (o + k) n < i → i < o + (k + 40 * (n + 10) + 122) → classOf fixed (getD strip i 0) ≡ Short
+  pub after-short : (i : ℕ) → endOf (o + k) n < i → i < o + (k + 40 * (n + 10) + 122) → classOf t (getD strip i 0) ≡ Short
   unfolding trailer
   after-short i a b =
-      let cs = classes fixed strip in
+      let cs = classes t strip in
       let j = i - (o + endOf k n) - 1 in
       let e : o + endOf k n + suc j ≡ i = omega arith in
       let w : part (blockClasses k payload) (endOf k n) 61 ≡ trailer = rw (← long) (after-at k payload) in
-      let t : part cs (o + endOf k n) 61 ≡ trailer = sym (part-part cs o (k + 40 * (n + 10) + 122) (endOf k n) 61 (omega arith)) ∙ kept .outside .after ∙ w in
-      sym (class-at fixed strip i (omega (arith, fits)))
+      let kept-after : part cs (o + endOf k n) 61 ≡ trailer = sym (part-part cs o (k + 40 * (n + 10) + 122) (endOf k n) 61 (omega arith)) ∙ kept .outside .after ∙ w in
+      sym (class-at t strip i (omega (arith, fits)))
       ∙ ap (λ p. getD cs p Noise) (sym e) ∙ sym (getD-part cs (o + endOf k n) 61 (suc j) Noise (omega arith))
-      ∙ ap (λ (l : List Class). getD l (suc j) Noise) t ∙ getD-replicate 60 j Short Noise (omega arith)
+      ∙ ap (λ (l : List Class). getD l (suc j) Noise) kept-after ∙ getD-replicate 60 j Short Noise (omega arith)
 
   -- Where after `from` only short pulses stand before that block,
   module _ (below : Below 256 payload) (from : ℕ) (lead : 16 ≤ k) (far : from + 16 ≤ o + k)
-      (before : (i : ℕ) → from < i → i < o → classOf fixed (getD strip i 0) ≡ Short) where
+      (before : (i : ℕ) → from < i → i < o → classOf t (getD strip i 0) ≡ Short) where
     -- the rules accept it, with p, end and payload
-    pub read-damaged : readFrom (classes fixed strip) from n ≡ accepted (blockAt (o + k) n payload)
+    pub read-damaged : readFrom (classes t strip) from n ≡ accepted (blockAt (o + k) n payload)
     read-damaged =
-        survives (classes fixed strip) o k payload long below (rw (length-map strip (classOf fixed)) fits) kept from lead far
-        (λ i a b. class-at fixed strip i (omega (arith, fits)) ∙ before i a b)
+        survives (classes t strip) o k payload long below (rw (length-map strip (classOf t)) fits) kept from lead far
+        (λ i a b. class-at t strip i (omega (arith, fits)) ∙ before i a b)
 
     -- and so does the reader, for a payload of a right size and enough room
-    pub readBlock-damaged : (room : ℕ) → wrongSize n ≡ false → n ≤ room → readBlock (classes fixed strip) room from n ≡ accepted (blockAt (o + k) n payload)
-    readBlock-damaged room size enough = read-room (classes fixed strip) room from n size enough ∙ read-damaged
+    pub readBlock-damaged : (room : ℕ) → wrongSize n ≡ false → n ≤ room → readBlock (classes t strip) room from n ≡ accepted (blockAt (o + k) n payload)
+    readBlock-damaged room size enough = read-room (classes t strip) room from n size enough ∙ read-damaged
 
 -- ---- The block as written
 
@@ -191,11 +201,11 @@ damaged-self k n w = record {
 }
 
 -- it lies within its own damage
-pub undamaged : (k : ℕ) (payload : List ℕ) → Damaged k payload (blockPulses k payload)
+pub undamaged : (k : ℕ) (payload : List ℕ) → Damaged fixed k payload (blockPulses k payload)
 undamaged k payload = record {
-  long = refl;
+  long = length-map (blockClasses k payload) writtenAs;
   counts = λ i. rw (List·getD-map writtenAs (blockClasses k payload) i Noise) (written-lt (getD (blockClasses k payload) i Noise));
-  kept = damaged-self k (length payload) (classes fixed (blockPulses k payload));
+  kept = rw (classes-pulses (blockClasses k payload)) (damaged-self k (length payload) (blockClasses k payload));
 }
 
 -- what the writer accepts
@@ -217,6 +227,6 @@ readBlock-written room k payload strip out e below long enough h =
     let w = written room k payload strip e in
     let there = part-put out 0 (blockPulses k payload) (omega arith) in
     rw (← (w .3))
-    (readBlock-damaged (putAt out 0 (blockPulses k payload)) 0 k payload refl (rw there (undamaged k payload)) below 0 (omega arith) (omega arith) (λ i a b. absurd (omega arith))
+    (readBlock-damaged fixed (putAt out 0 (blockPulses k payload)) 0 k payload refl (rw there (undamaged k payload)) below 0 (omega arith) (omega arith) (λ i a b. absurd (omega arith))
     enough (w .0) h
     ∙ ap (λ start. accepted (blockAt start (length payload) payload)) (zero-add k))

@@ -18,28 +18,26 @@ use Rattle.pulse.specs.declared.Class.{Class}
 use Rattle.byte.specs.declared.ByteRead.{ByteRead}
 use Rattle.byte.specs.declared.ByteRead.the-variants.{Good, Bad}
 use Rattle.byte.specs.Byte.{byteAt, isBad}
+use Rattle.start.specs.Start.{startOf}
 use Rattle.block.specs.Block.{wrongSize}
-use Rattle.block.specs.Reading.{startOf, copyTwo, endOf, isMiscounted, repaired, placeAt, isLost, valueAt, valuesAt, sumHolds, BlockRead, readCopies, readAt, readFound, readFrom, readBlock}
+use Rattle.block.specs.Reading.{copyTwo, endOf, isMiscounted, FromOne, FromTwo, Lost, placeOf, isLost, valueAt, valuesAt, sumHolds, BlockRead, readCopies, readAt, readFound, readFrom, readBlock}
 
 -- ---- Rule 4
 
 -- copy one's value where that byte is good, whatever copy two holds
-pub repaired-one : (v : ℕ) (one two : ByteRead) → one ≡ Good v → repaired one two ≡ Good v
-repaired-one v one two e = rw e
+pub place-one : (v : ℕ) (one two : ByteRead) → one ≡ Good v → placeOf one two ≡ FromOne v
+place-one v one two e = rw e
 
--- else copy two's
-pub repaired-two : (one two : ByteRead) → isBad one ≡ true → repaired one two ≡ two
-repaired-two (Good v) two e = absurd (let z : _≡_ {A = ℕ} 0 1 = cc in omega arith)
-repaired-two Bad two e = refl
+-- else copy two's, where that byte is good
+pub place-two : (v : ℕ) (one two : ByteRead) → isBad one ≡ true → two ≡ Good v → placeOf one two ≡ FromTwo v
+place-two v (Good w) two h e = absurd (let z : _≡_ {A = ℕ} 0 1 = cc in omega arith)
+place-two v Bad two h e = rw e
 
-module _ (cs : List Class) (one two i : ℕ) where
-  pub place-one : (v : ℕ) → byteAt cs (one + 20 * (9 + i)) ≡ Good v → placeAt cs one two i ≡ Good v
-  unfolding placeAt
-  place-one v e = repaired-one v (byteAt cs (one + 20 * (9 + i))) (byteAt cs (two + 20 * (9 + i))) e
-
-  pub place-two : isBad (byteAt cs (one + 20 * (9 + i))) ≡ true → placeAt cs one two i ≡ byteAt cs (two + 20 * (9 + i))
-  unfolding placeAt
-  place-two e = repaired-two (byteAt cs (one + 20 * (9 + i))) (byteAt cs (two + 20 * (9 + i))) e
+-- else it is lost
+pub place-lost : (one two : ByteRead) → isBad one ≡ true → isBad two ≡ true → placeOf one two ≡ Lost
+place-lost (Good w) two h k = absurd (let z : _≡_ {A = ℕ} 0 1 = cc in omega arith)
+place-lost Bad (Good w) h k = absurd (let z : _≡_ {A = ℕ} 0 1 = cc in omega arith)
+place-lost Bad Bad h k = refl
 
 -- ---- Enough room
 

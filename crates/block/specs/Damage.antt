@@ -6,10 +6,11 @@ use mathlib.Core.List.{List}
 use lib.ListN.{length}
 use Rattle.lists.specs.Places.{part, Below}
 use Rattle.pulse.specs.declared.Class.{Class}
-use Rattle.pulse.specs.Pulse.{fixed, classes}
+use Rattle.pulse.specs.declared.Thresholds.{Thresholds}
+use Rattle.pulse.specs.Pulse.{classes}
 use Rattle.byte.specs.Byte.{twenty}
 use Rattle.byte.specs.Damage.{differ}
-use Rattle.block.specs.Block.{copyPulses, blockPulses}
+use Rattle.block.specs.Block.{copyPulses, blockClasses}
 use Rattle.block.specs.Reading.{copyTwo, endOf}
 
 -- A block is written with a leader of k pulses and n payload bytes; w are the classes it was written in, and cs those of a strip with as
@@ -39,8 +40,9 @@ pub record DamagedClasses (k n : ℕ) (w cs : List Class) : Type 0 where
   pub places : (i : ℕ) → i < n + 10 → OneSound (oneAt k i w) (oneAt k i cs) (twoAt k n i w) (twoAt k n i cs)
 
 -- The strip lies within the damage of the block that is written with leader k and this payload: as many pulses, each any 32-bit count,
--- and pulse against pulse by their classes. This asks nothing of k and the payload; what the writer accepts is said elsewhere.
-pub record Damaged (k : ℕ) (payload strip : List ℕ) : Type 0 where
-  pub long : length strip ≡ length (blockPulses k payload)
+-- and, classed with the thresholds t, each against the class that was written. This asks nothing of k and the payload; what the writer
+-- accepts is said elsewhere.
+pub record Damaged (t : Thresholds) (k : ℕ) (payload strip : List ℕ) : Type 0 where
+  pub long : length strip ≡ length (blockClasses k payload)
   pub counts : Below (2 ^ 32) strip
-  pub kept : DamagedClasses k (length payload) (classes fixed (blockPulses k payload)) (classes fixed strip)
+  pub kept : DamagedClasses k (length payload) (blockClasses k payload) (classes t strip)

@@ -1,5 +1,4 @@
 pub mod Block
 pub mod Reading
-pub mod Checks
-pub mod Search
 pub mod Damage
+pub mod private

@@ -1,45 +1,25 @@
 -- Reading a block (document 01, 'Reading a block'), on the classes of a strip.
 use Prim.Native.Nat.{ℕ, _+_, _-_, _*_, _≤_}
 use mathlib.Core.Path.{_≡_}
-use mathlib.Core.Bool.{Bool, true, cond, not, _&&_, _||_}
+use mathlib.Core.Bool.{Bool, true, false, cond, not, _&&_, _||_}
 use mathlib.Core.List.{List, [], _∷_}
 use mathlib.Core.Option.{Option, none, some}
 use lib.Dec.{eqb, leb, ltb}
 use lib.ListN.{length, replicate}
 use Rattle.lists.specs.Places.{firstFrom, tabulate, part}
-use Rattle.lists.specs.Buffer.{putAt}
 use Rattle.refusal.specs.declared.Reason.the-variants.{WrongSize, NoRoom, NoStart, CutShort, WrongCountdown, LostByte, WrongChecksum}
-use Rattle.refusal.specs.Refusal.{Outcome, accepted, refuse, refuseFirst, told, mapped, puts}
+use Rattle.refusal.specs.Refusal.{Outcome, accepted, refuse, refuseFirst, told, mapped, Fills, Promise}
 use Rattle.pulse.specs.declared.Class.{Class}
 use Rattle.pulse.specs.declared.Class.the-variants.{Short}
 use Rattle.pulse.specs.Pulse.{same}
 use Rattle.byte.specs.declared.ByteRead.{ByteRead}
 use Rattle.byte.specs.declared.ByteRead.the-variants.{Good, Bad}
-use Rattle.byte.specs.Byte.{byteAt, isGood, isBad}
+use Rattle.byte.specs.Byte.{byteAt, isGood}
+use Rattle.start.specs.Start.{startOf}
 use Rattle.block.specs.declared.Extent.{Extent}
 use Rattle.block.specs.declared.BlockAnswer.{BlockAnswer}
 use Rattle.block.specs.declared.BlockAnswer.the-variants.{Accepted, Refused}
 use Rattle.block.specs.Block.{checksum, firstByte, copyPulses, wrongSize}
-
--- ---- Rule 1: the start
-
-unfoldable pub allShort : List Class → Bool
-allShort [] = true
-allShort (c ∷ cs) = same c Short && allShort cs
-
--- 16 short pulses just before p, all at or after `from`, and the 20 pulses from p on a good byte $89
-unfoldable pub isStart : (cs : List Class) (from p : ℕ) → Bool
-isStart cs from p = leb (from + 16) p && allShort (part cs (p - 16) 16) && isGood (firstByte 0) (byteAt cs p)
-
--- the same in words
-pub record Start (cs : List Class) (from p : ℕ) : Type 0 where
-  pub far : from + 16 ≤ p
-  pub shorts : part cs (p - 16) 16 ≡ replicate 16 Short
-  pub first : byteAt cs p ≡ Good 0x89
-
--- the start is the smallest such place
-unfoldable pub startOf : (cs : List Class) (from : ℕ) → Option ℕ
-startOf cs from = firstFrom (isStart cs from) (length cs) 0
 
 -- ---- Rule 2: the copies
 
@@ -62,25 +42,38 @@ isMiscounted cs one two i = not (counted cs one two i)
 
 -- ---- Rule 4: the values
 
--- copy one's byte where it is good, else copy two's
-abbrev pub repaired : (one two : ByteRead) → ByteRead
-repaired (Good v) two = Good v
-repaired Bad two = two
+-- a place of a block: its value is copy one's, or it is copy two's, or it is lost
+pub data Place : Type 0 where
+  FromOne : (value : ℕ) → Place
+  FromTwo : (value : ℕ) → Place
+  Lost : Place
 
--- at payload place i, and at place n for the checksum; bad where the place is lost
-unfoldable pub placeAt : (cs : List Class) (one two i : ℕ) → ByteRead
-placeAt cs one two i = repaired (byteAt cs (one + 20 * (9 + i))) (byteAt cs (two + 20 * (9 + i)))
+-- by the bytes of both copies: copy one's value where that byte is good, else copy two's
+abbrev pub placeOf : (one two : ByteRead) → Place
+placeOf (Good v) two = FromOne v
+placeOf Bad (Good v) = FromTwo v
+placeOf Bad Bad = Lost
+
+abbrev pub noValue : Place → Bool
+noValue (FromOne v) = false
+noValue (FromTwo v) = false
+noValue Lost = true
+
+-- a lost place stands as 0
+abbrev pub placeValue : Place → ℕ
+placeValue (FromOne v) = v
+placeValue (FromTwo v) = v
+placeValue Lost = 0
+
+-- payload place i, and place n for the checksum
+unfoldable pub placeAt : (cs : List Class) (one two i : ℕ) → Place
+placeAt cs one two i = placeOf (byteAt cs (one + 20 * (9 + i))) (byteAt cs (two + 20 * (9 + i)))
 
 abbrev pub isLost : (cs : List Class) (one two i : ℕ) → Bool
-isLost cs one two i = isBad (placeAt cs one two i)
-
--- the value of a good byte; a bad one has none, and stands as 0
-abbrev pub valueOrZero : ByteRead → ℕ
-valueOrZero (Good v) = v
-valueOrZero Bad = 0
+isLost cs one two i = noValue (placeAt cs one two i)
 
 abbrev pub valueAt : (cs : List Class) (one two i : ℕ) → ℕ
-valueAt cs one two i = valueOrZero (placeAt cs one two i)
+valueAt cs one two i = placeValue (placeAt cs one two i)
 
 -- the n payload values
 abbrev pub valuesAt : (cs : List Class) (one two n : ℕ) → List ℕ
@@ -143,4 +136,4 @@ blockAnswer (Refused r) = told r
 
 -- what a reader promises: it answers r and leaves out′ in the buffer that held out, as the outcome says
 abbrev pub Reads : (o : Outcome BlockRead) (out : List ℕ) (r : BlockAnswer) (out′ : List ℕ) → Type 0
-Reads o out r out′ = (blockAnswer r ≡ mapped extentOf o) × (out′ ≡ putAt out 0 (puts (mapped payloadOf o)))
+Reads o out r out′ = Promise (mapped extentOf) (Fills payloadOf out out′) o (blockAnswer r)

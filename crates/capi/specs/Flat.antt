@@ -4,7 +4,7 @@ use mathlib.Core.Path.{_≡_}
 use mathlib.Core.List.{List}
 use lib.ListN.{length}
 use Rattle.lists.specs.Buffer.{putAt}
-use Rattle.refusal.specs.Refusal.{Outcome, refused, accepted, mapped, puts}
+use Rattle.refusal.specs.Refusal.{Outcome, refused, accepted, mapped, Fills, Promise, itself}
 use Rattle.block.specs.declared.Extent.{Extent}
 use Rattle.block.specs.Reading.{BlockRead, extentOf, payloadOf}
 use Rattle.header.specs.declared.Fields.{Fields}
@@ -24,7 +24,7 @@ use Rattle.capi.specs.declared.TapeSpan.{TapeSpan}
 -- An outcome as a struct that `make` builds of refusal, block, place and what was given: `refusal` 0 means accepted, and then block and
 -- place are 0 too; a refusal gives `none`, in which every number is 0.
 abbrev pub flat : {A B : Type 0} (make : (refusal block place : ℕ) → A → B) (none : A) → Outcome A → B
-flat make none (refused number block place) = make number block place none
+flat make none (refused why) = make (why .number) (why .block) (why .place) none
 flat make none (accepted given) = make 0 0 0 given
 
 -- ---- The structs, each with what it holds for a refusal
@@ -81,14 +81,14 @@ shownSpan h = record { offset = shownPlace h; length = length (shownName h) }
 -- ---- What a call promises: it answers r and leaves in each lent buffer what the outcome puts, then what it held
 
 abbrev pub PutFlat : (o : Outcome (List ℕ)) (out : List ℕ) (r : TapePut) (out′ : List ℕ) → Type 0
-PutFlat o out r out′ = (r ≡ flatPut (mapped length o)) × (out′ ≡ putAt out 0 (puts o))
+PutFlat o out r out′ = Promise (λ given. flatPut (mapped length given)) (Fills itself out out′) o r
 
 abbrev pub BlockFlat : (o : Outcome BlockRead) (out : List ℕ) (r : TapeBlock) (out′ : List ℕ) → Type 0
-BlockFlat o out r out′ = (r ≡ flatBlock (mapped extentOf o)) × (out′ ≡ putAt out 0 (puts (mapped payloadOf o)))
+BlockFlat o out r out′ = Promise (λ given. flatBlock (mapped extentOf given)) (Fills payloadOf out out′) o r
 
 abbrev pub FileFlat : (o : Outcome FileRead) (h b : List ℕ) (r : TapeFile) (h′ b′ : List ℕ) → Type 0
 FileFlat o h b r h′ b′ =
-    (r ≡ flatFile (mapped loadedOf o)) × ((h′ ≡ putAt h 0 (puts (mapped headerOf o))) × (b′ ≡ putAt b 0 (puts (mapped bytesOf o))))
+    Promise (λ given. flatFile (mapped loadedOf given)) (λ given. Fills headerOf h h′ given × Fills bytesOf b b′ given) o r
 
 abbrev pub TapFlat : (o : Outcome Tap) (out : List ℕ) (r : TapeTap) (out′ : List ℕ) → Type 0
-TapFlat o out r out′ = (r ≡ flatTap (mapped infoOf o)) × (out′ ≡ putAt out 0 (puts (mapped durationsOf o)))
+TapFlat o out r out′ = Promise (λ given. flatTap (mapped infoOf given)) (Fills durationsOf out out′) o r

@@ -3,7 +3,7 @@ use Prim.Native.Nat.{ℕ, _+_, _*_}
 use mathlib.Core.Path.{_≡_}
 use mathlib.Core.List.{List, [], _∷_}
 use lib.ListN.{length, getD, set, replicate}
-use Rattle.refusal.specs.Refusal.{refused, accepted, mapped}
+use Rattle.refusal.specs.Refusal.{refusedBy, accepted, mapped}
 use Rattle.pulse.specs.declared.Class.the-variants.{Short, Medium, Long, Noise}
 use Rattle.pulse.specs.Pulse.{fixed, classOf, classes}
 use Rattle.byte.specs.declared.ByteRead.the-variants.{Good}
@@ -70,12 +70,12 @@ cases =
     ∷ (checksum gameHeader ≡ 0xb8)
     -- as a program file, which would have 36,616 bytes: refused with 9, in reading and in writing
     ∷ (dataBytes (fieldsOf gameHeader) ≡ 36616)
-    ∷ (readFile (classes fixed (blockPulses 64 gameHeader)) 192 36616 0 ≡ refused 9 0 0)
-    ∷ (writeFile 1000000 (file gameFields gameName (replicate 36616 0x00) 64 64) ≡ refused 9 0 0)
+    ∷ (readFile (classes fixed (blockPulses 64 gameHeader)) 192 36616 0 ≡ refusedBy 9 0 0)
+    ∷ (writeFile 1000000 (file gameFields gameName (replicate 36616 0x00) 64 64) ≡ refusedBy 9 0 0)
     -- $00 with bits 0 and 1 turned round is a good $03
     ∷ (byteAt (classes fixed (turned 0 (bytePulses 0x00))) 0 ≡ Good 0x03)
     -- the same in copy one's payload place, n = 1: refused with 7, place 1
-    ∷ (readBlock (classes fixed (turned (64 + 20 * 9) (blockPulses 64 (0x00 ∷ [])))) 1 0 1 ≡ refused 7 0 1)
+    ∷ (readBlock (classes fixed (turned (64 + 20 * 9) (blockPulses 64 (0x00 ∷ [])))) 1 0 1 ≡ refusedBy 7 0 1)
     -- n = 1, K = 64: 626 pulses
     ∷ (mapped length (writeBlock 626 64 (0x00 ∷ [])) ≡ accepted 626)
     -- TAP data 2D 41 56 is 360, 520, 688 in either version

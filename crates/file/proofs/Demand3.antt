@@ -13,6 +13,7 @@ use Rattle.lists.proofs.PartLaws.{part-part}
 use Rattle.lists.proofs.BufferLaws.{part-put, rest-front}
 use Rattle.refusal.specs.Refusal.{accepted, mapped, puts}
 use Rattle.refusal.proofs.OutcomeLaws.{accepted-once, mapped-accepted}
+use Rattle.pulse.specs.declared.Thresholds.{Thresholds}
 use Rattle.pulse.specs.Pulse.{fixed, classes}
 use Rattle.block.specs.Reading.{endOf}
 use Rattle.block.proofs.BlockLaws.{length-blockPulses}
@@ -46,22 +47,22 @@ module _ {f : File} {out out′ : List ℕ} {count : ℕ} (sent : Sent f out cou
 
   -- ---- The strip lies within its damage
 
-  module _ {strip : List ℕ} (d : FileDamaged f count strip) where
+  module _ {t : Thresholds} {strip : List ℕ} (d : FileDamaged t f count strip) where
     -- the rules for reading give it, whatever room is enough
     pub readFile-damaged : (headerRoom dataRoom : ℕ) → 192 ≤ headerRoom → dataBytes (f .fields) ≤ dataRoom
-        → readFile (classes fixed strip) headerRoom dataRoom 0 ≡ accepted (asWritten f strip)
+        → readFile (classes t strip) headerRoom dataRoom 0 ≡ accepted (asWritten f strip)
     readFile-damaged headerRoom dataRoom h b =
         let right = taken .right in
         let n = dataBytes (f .fields) in
         let p = 0 + length (headerPulses f) + f .leader₁ in
         let whole : part strip 0 (length (filePulses f)) ≡ strip = take-all (length (filePulses f)) strip (omega (arith, d .long, length-count)) in
-        let r = file-read f (sent .typed) right strip 0 (rw (whole, length-count) d) 0 (omega (arith, right .leader₀ .low)) (λ i x y. absurd (omega arith)) headerRoom dataRoom h b in
+        let r = file-read t f (sent .typed) right strip 0 (rw (whole, length-count) d) 0 (omega (arith, right .leader₀ .low)) (λ i x y. absurd (omega arith)) headerRoom dataRoom h b in
         let size : length (dataPulses f) ≡ f .leader₁ + 40 * (n + 10) + 122 = rw (right .size) (length-blockPulses (f .leader₁) (f .bytes)) in
         let stop : endOf p n ≡ length strip - 61 = omega (arith, d .long, length-count, length-filePulses f) in
         r ∙ rw (fields-header (f .fields) (f .name), stop)
 
     -- what the reader promises from place 0 on is to return the file
-    returned : (h b : List ℕ) (r : FileAnswer) (h′ b′ : List ℕ) → Enough f h b → Reads (readFile (classes fixed strip) (length h) (length b) 0) h b r h′ b′
+    returned : (h b : List ℕ) (r : FileAnswer) (h′ b′ : List ℕ) → Enough f h b → Reads (readFile (classes t strip) (length h) (length b) 0) h b r h′ b′
         → Returned f strip h b r h′ b′
     returned h b r h′ b′ enough promised =
         let e = readFile-damaged (length h) (length b) (enough .header) (enough .bytes) in
@@ -82,7 +83,7 @@ module _ {f : File} {out out′ : List ℕ} {count : ℕ} (sent : Sent f out cou
 -- ---- No strip lies within the damage of two files that differ
 
 module _ {f g : File} {out out′ other other′ : List ℕ} {count count′ : ℕ} (sent : Sent f out count out′) (sent′ : Sent g other count′ other′) {strip : List ℕ} where
-  pub same-file : FileDamaged f count strip → FileDamaged g count′ strip → SameFile f g
+  pub same-file : FileDamaged fixed f count strip → FileDamaged fixed g count′ strip → SameFile f g
   same-file d d′ =
       let e = readFile-damaged sent d 192 8192 (lit≤ tt) (taken sent .right .addresses .high) in
       let e′ = readFile-damaged sent′ d′ 192 8192 (lit≤ tt) (taken sent′ .right .addresses .high) in
@@ -96,7 +97,7 @@ module _ {f g : File} {out out′ other other′ : List ℕ} {count count′ : �
 -- ---- The file as written
 
 -- it lies within its own damage
-pub file-undamaged : (f : File) → FileDamaged f (length (filePulses f)) (filePulses f)
+pub file-undamaged : (f : File) → FileDamaged fixed f (length (filePulses f)) (filePulses f)
 file-undamaged f = record {
   long = refl;
   header = rw (take-at (headerPulses f) (dataPulses f) (length (headerPulses f)) refl) (undamaged (f .leader₀) (fileHeader f));
@@ -113,7 +114,7 @@ sent-strip {f} {out} sent =
     let fits = t .fits in
     rw (sent .promised .1, taken-accepted (length out) f t, ← (length-count sent)) (part-put out 0 (filePulses f) (omega arith))
 
-sent-undamaged : {f : File} {out out′ : List ℕ} {count : ℕ} → Sent f out count out′ → FileDamaged f count (part out′ 0 count)
+sent-undamaged : {f : File} {out out′ : List ℕ} {count : ℕ} → Sent f out count out′ → FileDamaged fixed f count (part out′ 0 count)
 sent-undamaged {f} sent = rw (sent-strip sent, ← (length-count sent)) (file-undamaged f)
 
 -- ---- Demand 3

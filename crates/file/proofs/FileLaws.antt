@@ -14,6 +14,7 @@ use Rattle.lists.proofs.PartLaws.{part-part}
 use Rattle.refusal.specs.declared.Reason.the-variants.{WrongSize, NoRoom, WrongType, WrongAddresses, WrongLeader}
 use Rattle.refusal.specs.Refusal.{accepted, refusalAt, refusalIn, mapped, inBlock}
 use Rattle.refusal.proofs.OutcomeLaws.{accepted-next, then-accepted, block-accepted, mapped-accepted}
+use Rattle.pulse.specs.declared.Thresholds.{Thresholds}
 use Rattle.pulse.specs.declared.Class.{Class}
 use Rattle.pulse.specs.declared.Class.the-variants.{Short}
 use Rattle.pulse.specs.Pulse.{fixed, classOf, classes}
@@ -133,8 +134,8 @@ file-by f right read headerRoom dataRoom from p₀ p₁ h b one two =
 -- ---- A damaged file is read
 
 -- The strip holds, from place o on, what lies within the damage of the file, and after `from` only short pulses stand before it.
-module _ (f : File) (typed : Typed f) (right : Right f) (strip : List ℕ) (o : ℕ) (d : FileDamaged f (length (filePulses f)) (part strip o (length (filePulses f))))
-    (from : ℕ) (far : from + 16 ≤ o + f .leader₀) (before : (i : ℕ) → from < i → i < o → classOf fixed (getD strip i 0) ≡ Short) where
+module _ (t : Thresholds) (f : File) (typed : Typed f) (right : Right f) (strip : List ℕ) (o : ℕ) (d : FileDamaged t f (length (filePulses f)) (part strip o (length (filePulses f))))
+    (from : ℕ) (far : from + 16 ≤ o + f .leader₀) (before : (i : ℕ) → from < i → i < o → classOf t (getD strip i 0) ≡ Short) where
   abbrev k₀ : ℕ
   k₀ = f .leader₀
 
@@ -148,28 +149,28 @@ module _ (f : File) (typed : Typed f) (right : Right f) (strip : List ℕ) (o : 
   abbrev o₁ : ℕ
   o₁ = o + length (headerPulses f)
 
-  one : Damaged k₀ (fileHeader f) (part strip o (length (headerPulses f)))
+  one : Damaged t k₀ (fileHeader f) (part strip o (length (headerPulses f)))
   one =
       let e : o + 0 ≡ o = omega arith in
       rw e at (rw (part-part strip o (length (filePulses f)) 0 (length (headerPulses f)) (omega (arith, length-filePulses f))) at (d .header))
 
-  two : Damaged k₁ (f .bytes) (part strip o₁ (length (dataPulses f)))
+  two : Damaged t k₁ (f .bytes) (part strip o₁ (length (dataPulses f)))
   two = rw (part-part strip o (length (filePulses f)) (length (headerPulses f)) (length (dataPulses f)) (omega (arith, length-filePulses f))) at (d .bytes)
 
-  header-read : readFrom (classes fixed strip) from 192 ≡ accepted (blockAt (o + k₀) 192 (fileHeader f))
+  header-read : readFrom (classes t strip) from 192 ≡ accepted (blockAt (o + k₀) 192 (fileHeader f))
   header-read =
-      read-damaged strip o k₀ (fileHeader f) (length-header (f .fields) (f .name)) one
+      read-damaged t strip o k₀ (fileHeader f) (length-header (f .fields) (f .name)) one
       (below-header (f .fields) (f .name) (typed .kind) (typed .start) (typed .end) (typed .name)) from (omega (arith, right .leader₀ .low)) far before
 
-  data-read : readFrom (classes fixed strip) (endOf (o + k₀) 192) n ≡ accepted (blockAt (o₁ + k₁) n (f .bytes))
+  data-read : readFrom (classes t strip) (endOf (o + k₀) 192) n ≡ accepted (blockAt (o₁ + k₁) n (f .bytes))
   data-read =
       let l = length-headerPulses f in
-      read-damaged strip o₁ k₁ (f .bytes) (sym (right .size)) two (typed .bytes) (endOf (o + k₀) 192) (omega (arith, right .leader₁ .low)) (omega (arith, right .leader₁ .low))
-      (λ i a b. after-short strip o k₀ (fileHeader f) (length-header (f .fields) (f .name)) one i a (omega arith))
+      read-damaged t strip o₁ k₁ (f .bytes) (sym (right .size)) two (typed .bytes) (endOf (o + k₀) 192) (omega (arith, right .leader₁ .low)) (omega (arith, right .leader₁ .low))
+      (λ i a b. after-short t strip o k₀ (fileHeader f) (length-header (f .fields) (f .name)) one i a (omega arith))
 
   pub file-read : (headerRoom dataRoom : ℕ) → 192 ≤ headerRoom → n ≤ dataRoom
-      → readFile (classes fixed strip) headerRoom dataRoom from ≡ accepted (fileRead (fileHeader f) (blockAt (o₁ + k₁) n (f .bytes)))
-  file-read headerRoom dataRoom h b = file-by f right (readFrom (classes fixed strip)) headerRoom dataRoom from (o + k₀) (o₁ + k₁) h b header-read data-read
+      → readFile (classes t strip) headerRoom dataRoom from ≡ accepted (fileRead (fileHeader f) (blockAt (o₁ + k₁) n (f .bytes)))
+  file-read headerRoom dataRoom h b = file-by f right (readFrom (classes t strip)) headerRoom dataRoom from (o + k₀) (o₁ + k₁) h b header-read data-read
 
 -- ---- What the reader accepts
 

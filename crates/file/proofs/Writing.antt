@@ -15,7 +15,7 @@ use Rattle.refusal.specs.declared.Reason.the-variants.{WrongSize, NoRoom, Wrong
 use Rattle.refusal.specs.declared.Refusal.{Refusal}
 use Rattle.refusal.specs.declared.Put.{Put}
 use Rattle.refusal.specs.declared.Put.the-variants.{Count, Refused}
-use Rattle.refusal.specs.Refusal.{Outcome, refusalAt, refusalIn, puts, putAnswer, Written}
+use Rattle.refusal.specs.Refusal.{Outcome, refusalAt, refusalIn, putAnswer, Fills, itself, Written}
 use Rattle.refusal.proofs.OutcomeLaws.{written-refused, written-accepted}
 use Rattle.block.specs.Block.{blockPulses, wrongSize, measureBlock, writeBlock}
 use Rattle.block.proofs.BlockLaws.{length-blockPulses, right-size, Measured, measure-accepted, measure-refused, write-measured}
@@ -62,8 +62,8 @@ module _ (out : List ℕ) (k₀ : ℕ) (header : List ℕ) (k₁ : ℕ) (bytes :
         no-room h = written-refused outcome out (rw (one q .leader, two .leader, count, lt-ltb (length out) (first + second) h))
 
         -- the second block goes into the part of the output after the first
-        pub both : {a b : List ℕ} → first + second ≤ length out → a ≡ putAt out 0 (puts (writeBlock (length out) k₀ header))
-            → b ≡ putAt (part a first (length a - first)) 0 (puts (writeBlock (length (part a first (length a - first))) k₁ bytes))
+        pub both : {a b : List ℕ} → first + second ≤ length out → Fills itself out a (writeBlock (length out) k₀ header)
+            → Fills itself (part a first (length a - first)) b (writeBlock (length (part a first (length a - first))) k₁ bytes)
             → Written outcome out (Count (first + second)) (take first a ++ (b ++ drop (length a - first) (drop first a)))
         unfolding writeBlocks
         both {a} h s t =

@@ -60,12 +60,12 @@ pub record Demand3 : Type 0 where
   -- For every file and leaders that the writer accepts, every strip within the damage, and all such room: a reader that keeps its
   -- contract, `Reads`, from place 0 on returns that file.
   pub returned : (f : File) (out : List ℕ) (count : ℕ) (out′ : List ℕ) → Sent f out count out′
-      → (strip : List ℕ) → FileDamaged f count strip
+      → (strip : List ℕ) → FileDamaged fixed f count strip
       → (h b : List ℕ) → Enough f h b
       → (r : FileAnswer) (h′ b′ : List ℕ) → Reads (readFile (classes fixed strip) (length h) (length b) 0) h b r h′ b′
       → Returned f strip h b r h′ b′
   -- No strip lies within the damage of two files that differ.
   pub apart : (f g : File) (out other : List ℕ) (count count′ : ℕ) (out′ other′ : List ℕ) → Sent f out count out′ → Sent g other count′ other′
-      → Differ f g → (strip : List ℕ) → FileDamaged f count strip → FileDamaged g count′ strip → ⊥
+      → Differ f g → (strip : List ℕ) → FileDamaged fixed f count strip → FileDamaged fixed g count′ strip → ⊥
   -- The strip as written, which the writer left in the buffer, lies within its own damage.
-  pub within : (f : File) (out : List ℕ) (count : ℕ) (out′ : List ℕ) → Sent f out count out′ → FileDamaged f count (part out′ 0 count)
+  pub within : (f : File) (out : List ℕ) (count : ℕ) (out′ : List ℕ) → Sent f out count out′ → FileDamaged fixed f count (part out′ 0 count)

@@ -6,7 +6,7 @@ use mathlib.Core.List.{List}
 use lib.Dec.{ltb}
 use Rattle.lists.specs.Buffer.{putAt}
 use Rattle.refusal.specs.declared.Reason.the-variants.{NoRoom, WrongType, WrongAddresses}
-use Rattle.refusal.specs.Refusal.{Outcome, accepted, refuse, told, mapped, inBlock, andThen, puts}
+use Rattle.refusal.specs.Refusal.{Outcome, accepted, refuse, told, mapped, inBlock, andThen, Fills, Promise}
 use Rattle.pulse.specs.declared.Class.{Class}
 use Rattle.block.specs.Reading.{BlockRead, readFrom}
 use Rattle.header.specs.Header.{fieldsOf}
@@ -65,5 +65,4 @@ fileAnswer (Refused r) = told r
 
 -- what a reader promises: it answers r and leaves h′ and b′ in the buffers that held h and b, as the outcome says
 abbrev pub Reads : (o : Outcome FileRead) (h b : List ℕ) (r : FileAnswer) (h′ b′ : List ℕ) → Type 0
-Reads o h b r h′ b′ =
-    (fileAnswer r ≡ mapped loadedOf o) × ((h′ ≡ putAt h 0 (puts (mapped headerOf o))) × (b′ ≡ putAt b 0 (puts (mapped bytesOf o))))
+Reads o h b r h′ b′ = Promise (mapped loadedOf) (λ given. Fills headerOf h h′ given × Fills bytesOf b b′ given) o (fileAnswer r)

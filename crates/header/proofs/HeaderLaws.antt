@@ -112,5 +112,5 @@ unfolding shownName
 width-shown h = go (unpackHeader h)
   where
     go : (o : Outcome Fields) → length (puts (mapped (λ _. part h 5 (shownCount h 16)) o)) ≤ 16
-    go (refused number block place) = omega arith
+    go (refused why) = omega arith
     go (accepted fields) = rw length-take (omega (arith, shown-count h 16 .high))

@@ -79,7 +79,7 @@ unfoldable pub shownName : (header : List ℕ) → List ℕ
 shownName h = puts (mapped (λ _. part h 5 (shownCount h 16)) (unpackHeader h))
 
 abbrev pub nameAt : Outcome Fields → ℕ
-nameAt (refused number block place) = 0
+nameAt (refused why) = 0
 nameAt (accepted fields) = 5
 
 -- the place of the header where that part begins: byte 5, or the header's own beginning where unpacking refuses

@@ -195,7 +195,7 @@ width-text (Accepted l) header = simp length-append (omega (arith, width-file (l
 width-text (Refused r) header = simp length-append (omega (arith, width-refusal (numberOf (r .reason)) (r .block) (r .place)))
 
 width-line : (o : Outcome FileRead) → length (line o) ≤ 71
-width-line (refused number block place) = width-refusal number block place
+width-line (refused why) = width-refusal (why .number) (why .block) (why .place)
 width-line (accepted f) = omega (arith, width-file (f .loaded .fields) (length (f .bytes)) (shownName (f .header)) (width-shown (f .header)))
 
 -- every listing fits 97 bytes

@@ -12,8 +12,8 @@ use Rattle.lists.specs.Buffer.{putAt, Counts}
 use Rattle.lists.proofs.BufferLaws.{length-put, part-put, put-room, put-whole}
 use Rattle.refusal.specs.declared.Reason.the-variants.{WrongSize}
 use Rattle.refusal.specs.declared.Refusal.{Refusal}
-use Rattle.refusal.specs.Refusal.{Outcome, accepted, refusalAt, told, mapped, andThen, puts}
-use Rattle.refusal.proofs.OutcomeLaws.{mapped-refused, told-refused, puts-refused, accepted-next, then-accepted, mapped-told, mapped-accepted}
+use Rattle.refusal.specs.Refusal.{Outcome, accepted, refusalAt, told, mapped, andThen, puts, Fills, Promise}
+use Rattle.refusal.proofs.OutcomeLaws.{puts-refused, accepted-next, then-accepted, mapped-told, mapped-accepted}
 use Rattle.pulse.specs.Pulse.{fixed, classes}
 use Rattle.header.specs.Header.{shownName}
 use Rattle.file.specs.declared.Loaded.{Loaded}
@@ -36,10 +36,10 @@ use Rattle.listing.proofs.LineLaws.{append-length}
 
 -- the answer, and the header that is kept
 abbrev pub Kept : (o : Outcome FileRead) (h : List ℕ) (r : FileAnswer) (h′ : List ℕ) → Type 0
-Kept o h r h′ = (fileAnswer r ≡ mapped loadedOf o) × (h′ ≡ putAt h 0 (puts (mapped headerOf o)))
+Kept o h r h′ = Promise (mapped loadedOf) (Fills headerOf h h′) o (fileAnswer r)
 
 kept-refused : (o : Outcome FileRead) (h : List ℕ) {r s : Refusal} → o ≡ told s → r ≡ s → Kept o h (Refused r) h
-kept-refused o h {s = s} e q = (told-refused s e loadedOf q, puts-refused s h (mapped-refused s e headerOf))
+kept-refused o h e q = rw (e, q) (refl, puts-refused h)
 
 module _ (file h : List ℕ) where
   pub too-long : {r : Refusal} → 16384 < length file → r ≡ refusalAt WrongSize 0 → Kept (fileIn file) h (Refused r) h

@@ -11,7 +11,7 @@ use Rattle.lists.specs.Text.{lowFirst}
 use Rattle.refusal.specs.Refusal.{accepted}
 use Rattle.pulse.specs.declared.Class.{Class}
 use Rattle.pulse.specs.declared.Class.the-variants.{Short, Medium, Long, Noise}
-use Rattle.pulse.specs.Pulse.{writtenAs, pulses}
+use Rattle.pulse.specs.Pulse.{fixed, writtenAs, pulses}
 use Rattle.block.specs.Block.{blockClasses}
 use Rattle.block.proofs.BlockLaws.{length-block}
 use Rattle.header.proofs.HeaderLaws.{length-header}
@@ -27,7 +27,7 @@ use Rattle.tap.proofs.RoundTrip.{tap-back}
 use Rattle.listing.specs.Listing.{line, fileIn, heading, listing}
 use Rattle.listing.specs.Claim.{Printed}
 
-file-in : {f : File} {out out′ : List ℕ} {count : ℕ} (sent : Sent f out count out′) {strip : List ℕ} → FileDamaged f count strip
+file-in : {f : File} {out out′ : List ℕ} {count : ℕ} (sent : Sent f out count out′) {strip : List ℕ} → FileDamaged fixed f count strip
     → (version : ℕ) (file : List ℕ) → length file ≤ 16384 → tapOf file ≡ accepted (tapWith version strip) → fileIn file ≡ accepted (asWritten f strip)
 unfolding fileIn
 file-in sent d version file short e =

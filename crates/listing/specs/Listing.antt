@@ -54,7 +54,7 @@ unfoldable pub refusalLine : (number block place : ℕ) → List ℕ
 refusalLine number block place = field (ascii "refused") ++ field (decimal number) ++ field (decimal block) ++ (decimal place ++ newline)
 
 abbrev pub line : Outcome FileRead → List ℕ
-line (refused number block place) = refusalLine number block place
+line (refused why) = refusalLine (why .number) (why .block) (why .place)
 line (accepted f) = fileLine (f .loaded .fields) (length (f .bytes)) (shownName (f .header))
 
 -- ---- The listing

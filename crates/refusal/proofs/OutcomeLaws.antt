@@ -3,7 +3,7 @@ use Prim.Native.Nat.{ℕ}
 use native.Mathlib.Omega.{arith}
 use mathlib.Core.Path.{_≡_, refl}
 use mathlib.Core.Bool.{Bool, false, cond}
-use mathlib.Core.List.{List}
+use mathlib.Core.List.{List, []}
 use mathlib.Core.Option.{Option, none, some}
 use borrow.Author.Tests.{le-leb}
 use lib.ListN.{length}
@@ -12,19 +12,12 @@ use Rattle.lists.proofs.BoolLaws.{cond-second}
 use Rattle.refusal.specs.declared.Reason.{Reason}
 use Rattle.refusal.specs.declared.Refusal.{Refusal}
 use Rattle.refusal.specs.declared.Put.the-variants.{Count, Refused}
-use Rattle.refusal.specs.Refusal.{Outcome, refused, accepted, refuseFirst, told, mapped, inBlock, andThen, puts, Written}
+use Rattle.refusal.specs.Refusal.{Outcome, refused, accepted, refuseFirst, told, mapped, inBlock, andThen, Written}
 
-module _ {A : Type 0} {o : Outcome A} (s : Refusal) (e : o ≡ told s) where
-  pub mapped-refused : {B : Type 0} (f : A → B) → mapped f o ≡ told s
-  mapped-refused f = rw e
-
-  pub told-refused : {B : Type 0} (f : A → B) {r : Refusal} → r ≡ s → told r ≡ mapped f o
-  told-refused f q = rw (e, q)
-
--- a refusal alters nothing
-pub puts-refused : {o : Outcome (List ℕ)} (s : Refusal) (buffer : List ℕ) → o ≡ told s → buffer ≡ putAt buffer 0 (puts o)
+-- a refusal puts nothing
+pub puts-refused : (buffer : List ℕ) → buffer ≡ putAt buffer 0 []
 unfolding putAt
-puts-refused s buffer e = rw (e, le-leb 0 (length buffer) (omega arith))
+puts-refused buffer = rw (le-leb 0 (length buffer) (omega arith))
 
 pub accepted-next : {A : Type 0} (t : Bool) (r : Refusal) (later : Outcome A) (given : A) → cond t (told r) later ≡ accepted given
     → (t ≡ false) × (later ≡ accepted given)
@@ -43,11 +36,11 @@ first-found reason (some place) later given e = absurd (let z : _≡_ {A = ℕ} 
 
 pub then-accepted : {A B : Type 0} (o : Outcome A) (next : A → Outcome B) (given : B) → andThen o next ≡ accepted given
     → (x : A) × (o ≡ accepted x) × (next x ≡ accepted given)
-then-accepted (refused number block place) next given e = absurd (let z : _≡_ {A = ℕ} 0 1 = cc in omega arith)
+then-accepted (refused why) next given e = absurd (let z : _≡_ {A = ℕ} 0 1 = cc in omega arith)
 then-accepted (accepted x) next given e = (x, refl, e)
 
 pub block-accepted : {A : Type 0} (block : ℕ) (o : Outcome A) (given : A) → inBlock block o ≡ accepted given → o ≡ accepted given
-block-accepted block (refused number other place) given e = absurd (let z : _≡_ {A = ℕ} 0 1 = cc in omega arith)
+block-accepted block (refused why) given e = absurd (let z : _≡_ {A = ℕ} 0 1 = cc in omega arith)
 block-accepted block (accepted x) given e = e
 
 -- an outcome gives one thing
@@ -57,17 +50,17 @@ accepted-once e q = cc
 -- ---- What a call answers tells its outcome
 
 pub mapped-told : {A B : Type 0} (f : A → B) (o : Outcome A) (r : Refusal) → told r ≡ mapped f o → o ≡ told r
-mapped-told f (refused number block place) r e = cc
+mapped-told f (refused why) r e = cc
 mapped-told f (accepted given) r e = absurd (let z : _≡_ {A = ℕ} 0 1 = cc in omega arith)
 
 pub mapped-accepted : {A B : Type 0} (f : A → B) (o : Outcome A) {x : B} → accepted x ≡ mapped f o → (y : A) × (o ≡ accepted y) × (f y ≡ x)
-mapped-accepted f (refused number block place) e = absurd (let z : _≡_ {A = ℕ} 0 1 = cc in omega arith)
+mapped-accepted f (refused why) e = absurd (let z : _≡_ {A = ℕ} 0 1 = cc in omega arith)
 mapped-accepted f (accepted given) e = (given, refl, cc)
 
--- ---- Writers
+-- ---- What a writer promises
 
 pub written-refused : (o : Outcome (List ℕ)) (out : List ℕ) {r s : Refusal} → o ≡ told s → r ≡ s → Written o out (Refused r) out
-written-refused o out {s = s} e q = (told-refused s e length q, puts-refused s out e)
+written-refused o out e q = rw (e, q) (refl, puts-refused out)
 
 pub written-accepted : (o : Outcome (List ℕ)) (out : List ℕ) {values out′ : List ℕ} {count : ℕ} → o ≡ accepted values → length values ≡ count
     → out′ ≡ putAt out 0 values → Written o out (Count count) out′

@@ -51,11 +51,11 @@ durations-new (suc v) n at (zero ∷ a ∷ b ∷ c ∷ bs) = rw (durations-new (
 -- ---- Version 1: what stands in front
 
 mapped-append : (xs ys : List ℕ) (o : Outcome (List ℕ)) → mapped (λ ds. xs ++ ds) (mapped (λ ds. ys ++ ds) o) ≡ mapped (λ ds. xs ++ (ys ++ ds)) o
-mapped-append xs ys (refused number block place) = refl
+mapped-append xs ys (refused why) = refl
 mapped-append xs ys (accepted ds) = refl
 
 mapped-none : (o : Outcome (List ℕ)) → o ≡ mapped (λ ds. [] ++ ds) o
-mapped-none (refused number block place) = refl
+mapped-none (refused why) = refl
 mapped-none (accepted ds) = refl
 
 byte : (at : ℕ) (bs : List ℕ) → 0 < length bs → (getD bs 0 0 ≡ 0 → ⊥)
@@ -153,7 +153,7 @@ low-three bytes at h =
 
 mapped-width : (d : ℕ) (o : Outcome (List ℕ)) (n : ℕ) → ((ds : List ℕ) → o ≡ accepted ds → length ds ≤ n)
     → (ds : List ℕ) → mapped (λ es. d ∷ es) o ≡ accepted ds → length ds ≤ suc n
-mapped-width d (refused number block place) n h ds e = absurd (let z : _≡_ {A = ℕ} 0 1 = cc in omega arith)
+mapped-width d (refused why) n h ds e = absurd (let z : _≡_ {A = ℕ} 0 1 = cc in omega arith)
 mapped-width d (accepted es) n h ds e = let q : d ∷ es ≡ ds = cc in rw (← q) (omega (arith, h es refl))
 
 -- no more than bytes
@@ -189,5 +189,5 @@ module _ (file : List ℕ) where
   read-enough room h = go (tapOf file) (width-tap)
     where
       go : (o : Outcome Tap) → ((t : Tap) → o ≡ accepted t → length (t .durations) ≤ length file - 20) → andThen o (fitting room) ≡ o
-      go (refused number block place) w = refl
+      go (refused why) w = refl
       go (accepted t) w = room-fits room t (omega (arith, w t refl))

@@ -16,7 +16,7 @@ use Rattle.refusal.specs.declared.Refusal.{Refusal}
 use Rattle.refusal.specs.declared.Put.{Put}
 use Rattle.refusal.specs.declared.Put.the-variants.{Count, Refused as CountRefused}
 use Rattle.refusal.specs.Refusal.{Outcome, refused, accepted, refusalAt, told, mapped, andThen, puts, putAnswer}
-use Rattle.refusal.proofs.OutcomeLaws.{told-refused, mapped-refused, puts-refused, accepted-next, mapped-told, mapped-accepted}
+use Rattle.refusal.proofs.OutcomeLaws.{puts-refused, accepted-next, mapped-told, mapped-accepted}
 use Rattle.tap.specs.declared.TapAnswer.{TapAnswer}
 use Rattle.tap.specs.declared.TapAnswer.the-variants.{Accepted, Refused}
 use Rattle.tap.specs.declared.HeaderRead.{HeaderRead}
@@ -29,11 +29,11 @@ use Rattle.tap.proofs.Heading.{version-long}
 -- more of them counted in front
 counted-more : (count : ℕ) (xs : List ℕ) (o : Outcome (List ℕ))
     → mapped (λ ds. count + length xs + length ds) o ≡ mapped (λ ds. count + length ds) (mapped (λ ds. xs ++ ds) o)
-counted-more count xs (refused number block place) = refl
+counted-more count xs (refused why) = refl
 counted-more count xs (accepted ds) = ap accepted (let l = length-append xs ds in let z : count + length xs + length ds ≡ count + length (xs ++ ds) = omega arith in z)
 
 counted-none : (o : Outcome (List ℕ)) → mapped (λ ds. 0 + length ds) o ≡ mapped length o
-counted-none (refused number block place) = refl
+counted-none (refused why) = refl
 counted-none (accepted ds) = rw zero-add
 
 module _ (bytes : List ℕ) where
@@ -55,7 +55,7 @@ module _ (bytes : List ℕ) where
     count-run end h w e = let u′ = count-step (run-next bytes i end h w e) in rw (length-run bytes i end h w) at u′
 
     pub count-cut : {r : Refusal} → i < length bytes → Cut bytes i → r ≡ refusalAt CutLongForm i → told r ≡ mapped length (durationsIn 1 0 bytes)
-    count-cut h w q = told-refused (refusalAt CutLongForm i) (form-cut bytes i h w) (λ ds. count + length ds) q ∙ u .whole
+    count-cut h w q = ap told q ∙ ap (mapped (λ ds. count + length ds)) (sym (form-cut bytes i h w)) ∙ u .whole
 
     pub count-done : length bytes ≤ i → accepted count ≡ mapped length (durationsIn 1 0 bytes)
     count-done h = ap accepted (let z : count ≡ count + 0 = omega arith in z) ∙ ap (mapped (λ ds. count + length ds)) (sym (form-over bytes i h)) ∙ u .whole
@@ -118,7 +118,7 @@ module _ (bytes : List ℕ) where
 -- ---- What the reader comes to
 
 reads-refused : (o : Outcome Tap) (out : List ℕ) {r s : Refusal} → o ≡ told s → r ≡ s → Reads o out (Refused r) out
-reads-refused o out {s = s} e q = (told-refused s e infoOf q, puts-refused s out (mapped-refused s e durationsOf))
+reads-refused o out e q = rw (e, q) (refl, puts-refused out)
 
 module _ (v : ℕ) (bytes out : List ℕ) {a : Put} (e : putAnswer a ≡ mapped length (durationsIn v 0 bytes)) where
   pub data-cut : {r : Refusal} → a ≡ CountRefused r → Reads (readIn (length out) v bytes) out (Refused r) out

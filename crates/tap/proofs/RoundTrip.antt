@@ -17,7 +17,7 @@ use Rattle.lists.proofs.PlaceLaws.{none-first, first-none}
 use Rattle.lists.proofs.TextLaws.{length-low, from-low, same-equal}
 use Rattle.refusal.specs.declared.Reason.the-variants.{WrongSize, NoRoom, WrongTapVersion, NoTapForm}
 use Rattle.refusal.specs.declared.Put.the-variants.{Count}
-use Rattle.refusal.specs.Refusal.{Outcome, accepted, refusalAt, mapped, puts, Written}
+use Rattle.refusal.specs.Refusal.{Outcome, accepted, refusalAt, mapped, Written}
 use Rattle.refusal.proofs.OutcomeLaws.{accepted-next, first-accepted, first-found, then-accepted, mapped-accepted}
 use Rattle.pulse.specs.Units.{unitCycles}
 use Rattle.tap.specs.declared.TapAnswer.{TapAnswer}
@@ -192,7 +192,7 @@ pub tap-back : (v : ℕ) (ds file : List ℕ) (count : ℕ) (file′ : List ℕ)
 tap-back v ds file count file′ w =
     let m = mapped-accepted length (writeTap (length file) v ds) (w .0) in
     let t = accepted-sent (length file) v ds (m .0) (m .1) in
-    let p : file′ ≡ putAt file 0 (m .0) = w .1 ∙ ap (λ o. putAt file 0 (puts o)) (m .1) in
+    let p : file′ ≡ putAt file 0 (m .0) = rw (m .1) at (w .1) in
     let b : take count file′ ≡ m .0 = written-front file (m .0) count file′ (m .2) (t .fits) p in
     rw (b, t .file) (file-back v ds (t .few) (t .old) (t .has))
 

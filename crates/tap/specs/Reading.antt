@@ -9,7 +9,7 @@ use Rattle.lists.specs.Places.{part}
 use Rattle.lists.specs.Buffer.{putAt}
 use Rattle.lists.specs.Text.{fromLow, equal}
 use Rattle.refusal.specs.declared.Reason.the-variants.{NoRoom, WrongTapHeader, WrongTapVersion, CutLongForm}
-use Rattle.refusal.specs.Refusal.{Outcome, accepted, refuse, told, mapped, andThen, puts}
+use Rattle.refusal.specs.Refusal.{Outcome, accepted, refuse, told, mapped, andThen, Fills, Promise}
 use Rattle.pulse.specs.Units.{unitCycles}
 use Rattle.tap.specs.declared.TapInfo.{TapInfo}
 use Rattle.tap.specs.declared.TapAnswer.{TapAnswer}
@@ -86,4 +86,4 @@ tapAnswer (Refused r) = told r
 
 -- what the reader promises: it answers r and leaves out′ in the buffer that held out, as the outcome says
 abbrev pub Reads : (o : Outcome Tap) (out : List ℕ) (r : TapAnswer) (out′ : List ℕ) → Type 0
-Reads o out r out′ = (tapAnswer r ≡ mapped infoOf o) × (out′ ≡ putAt out 0 (puts (mapped durationsOf o)))
+Reads o out r out′ = Promise (mapped infoOf) (Fills durationsOf out out′) o (tapAnswer r)

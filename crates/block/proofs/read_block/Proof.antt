@@ -4,8 +4,7 @@ use mathlib.Core.Path.{sym, ap, _∙_}
 use borrow.Author.Needs.{needs}
 use denote.Ref.{now}
 use Rattle.pulse.specs.Pulse.{fixed, classes}
-use Rattle.block.specs.Reading.{startOf}
-use Rattle.block.specs.Checks.{foundAt}
+use Rattle.start.specs.Start.{startOf, foundAt}
 use Rattle.block.proofs.BlockLaws.{size-right}
 use Rattle.block.proofs.Answers.{wrong-size, no-room, no-start, start-within, started}
 use Rattle.block.proofs.read_block.Statement.{statement}

@@ -3,7 +3,7 @@ use mathlib.Core.Path.{sym, _∙_}
 use borrow.Author.Needs.{needs}
 use denote.Ref.{now}
 use Rattle.pulse.specs.Pulse.{fixed, classes}
-use Rattle.file.proofs.Loading.{wrong-type, wrong-order, no-room, spoilt, loaded}
+use Rattle.file.proofs.Loading.{by-rules, wrong-type, wrong-order, no-room, spoilt, loaded}
 use Rattle.file.proofs.read_data.Statement.{statement}
 use Rattle.file.proofs.read_data.Tie as tie
 
@@ -21,7 +21,7 @@ returns c =
     let k = c .before .before in
     let f = k .before in
     let a = f .before .before .before .before .args in
-    wrong-type (classes fixed (now (a .strip))) (now (a .header)) (now (a .bytes)) (a .from) (a .h) (f .fields-of .ensures) (sym (k .not-program .ensures) ∙ c .before .if1 .taken) (c .refused .ensures)
+    wrong-type (by-rules (classes fixed (now (a .strip)))) (now (a .header)) (now (a .bytes)) (a .from) (a .h) (f .fields-of .ensures) (sym (k .not-program .ensures) ∙ c .before .if1 .taken) (c .refused .ensures)
 
 wrong-addresses-requires : tie.Need-wrong-addresses-requires
 wrong-addresses-requires c κs = search needs
@@ -35,7 +35,7 @@ returns-2 c =
     let k = o .before .before in
     let f = k .before in
     let a = f .before .before .before .before .args in
-    wrong-order (classes fixed (now (a .strip))) (now (a .header)) (now (a .bytes)) (a .from) (a .h) (f .fields-of .ensures) (sym (k .not-program .ensures) ∙ o .before .if1 .left)
+    wrong-order (by-rules (classes fixed (now (a .strip)))) (now (a .header)) (now (a .bytes)) (a .from) (a .h) (f .fields-of .ensures) (sym (k .not-program .ensures) ∙ o .before .if1 .left)
     (sym (o .wrong-addresses .ensures) ∙ c .before .if2 .taken) (c .refused2 .ensures)
 
 data-bytes-requires : tie.Need-data-bytes-requires
@@ -51,7 +51,7 @@ returns-3 c =
     let k = o .before .before in
     let f = k .before in
     let a = f .before .before .before .before .args in
-    no-room (classes fixed (now (a .strip))) (now (a .header)) (now (a .bytes)) (a .from) (a .h) (f .fields-of .ensures) (sym (k .not-program .ensures) ∙ o .before .if1 .left)
+    no-room (by-rules (classes fixed (now (a .strip)))) (now (a .header)) (now (a .bytes)) (a .from) (a .h) (f .fields-of .ensures) (sym (k .not-program .ensures) ∙ o .before .if1 .left)
     (sym (o .wrong-addresses .ensures) ∙ n .before .if2 .left) (n .data-bytes .ensures) (c .before .if3 .taken) (c .refused3 .ensures)
 
 read-block-requires : tie.Need-read-block-requires
@@ -82,7 +82,7 @@ returns-4 c =
     let k = o .before .before in
     let f = k .before in
     let a = f .before .before .before .before .args in
-    spoilt (classes fixed (now (a .strip))) (now (a .header)) (now (a .bytes)) (a .from) (a .h) (f .fields-of .ensures) (sym (k .not-program .ensures) ∙ o .before .if1 .left)
+    spoilt (by-rules (classes fixed (now (a .strip)))) (now (a .header)) (now (a .bytes)) (a .from) (a .h) (f .fields-of .ensures) (sym (k .not-program .ensures) ∙ o .before .if1 .left)
     (sym (o .wrong-addresses .ensures) ∙ n .before .if2 .left) (n .data-bytes .ensures) (e .if3 .left) (m .read-block .ensures .0) (m .read-block .ensures .1)
     (s .r .given .1) (c .in-block .ensures)
 
@@ -103,7 +103,7 @@ returns-5 c =
     let k = o .before .before in
     let f = k .before in
     let a = f .before .before .before .before .args in
-    loaded (classes fixed (now (a .strip))) (now (a .header)) (now (a .bytes)) (a .from) (a .h) (f .fields-of .ensures) (sym (k .not-program .ensures) ∙ o .before .if1 .left)
+    loaded (by-rules (classes fixed (now (a .strip)))) (now (a .header)) (now (a .bytes)) (a .from) (a .h) (f .fields-of .ensures) (sym (k .not-program .ensures) ∙ o .before .if1 .left)
     (sym (o .wrong-addresses .ensures) ∙ n .before .if2 .left) (n .data-bytes .ensures) (e .if3 .left) (m .read-block .ensures .0) (m .read-block .ensures .1)
     (x .e .given .1) (p .put-header .ensures)
 

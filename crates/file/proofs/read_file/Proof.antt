@@ -2,7 +2,7 @@
 use borrow.Author.Needs.{needs}
 use denote.Ref.{now}
 use Rattle.pulse.specs.Pulse.{fixed, classes}
-use Rattle.file.proofs.Loading.{no-header, with-header}
+use Rattle.file.proofs.Loading.{by-rules, no-header, with-header}
 use Rattle.file.proofs.read_file.Statement.{statement}
 use Rattle.file.proofs.read_file.Tie as tie
 
@@ -25,7 +25,7 @@ returns : tie.Need-returns
 returns c =
     let m = c .before .before .before .before in
     let a = m .before .before .before .before .before .args in
-    no-header (classes fixed (now (a .strip))) (now (a .header)) (now (a .bytes)) (a .from) (m .read-block .ensures .0) (c .before .r .given .1)
+    no-header (by-rules (classes fixed (now (a .strip)))) (now (a .header)) (now (a .bytes)) (a .from) (m .read-block .ensures .0) (c .before .r .given .1)
 
 same-length : tie.Need-same-length
 same-length c = search needs
@@ -39,7 +39,7 @@ returns-2 c =
     let x = d .before .before .before .before in
     let m = x .before .before .before in
     let a = m .before .before .before .before .before .args in
-    with-header (classes fixed (now (a .strip))) (now (a .header)) (now (a .bytes)) (a .from) (m .read-block .ensures .0) (d .read-data .result) (x .e .given .1)
+    with-header (by-rules (classes fixed (now (a .strip)))) (now (a .header)) (now (a .bytes)) (a .from) (m .read-block .ensures .0) (d .read-data .result) (x .e .given .1)
     (m .read-block .ensures .1) (d .read-data .ensures)
 
 pub read-file-spec : {M : Type 1} → statement M
