@@ -12,9 +12,9 @@ static uint32_t pulses[MOST_FILE];
 static uint8_t header[TAPE_HEADER_BYTES];
 static uint8_t data[TAPE_MOST_BYTES];
 
-static int refused(uint32_t refusal, uint32_t block, uint64_t place)
+static int refused(tape_refusal why)
 {
-    fprintf(stderr, "refused %u %u %llu\n", (unsigned)refusal, (unsigned)block, (unsigned long long)place);
+    fprintf(stderr, "refused %u %u %llu\n", (unsigned)why.number, (unsigned)why.block, (unsigned long long)why.place);
     return 1;
 }
 
@@ -36,12 +36,12 @@ int main(void)
         return 1;
     }
     tape_tap tape = tape_read_tap(file, len, pulses, MOST_FILE);
-    if (tape.refusal != TAPE_ACCEPTED)
-        return refused(tape.refusal, tape.block, tape.place);
+    if (tape.refusal.number != TAPE_ACCEPTED)
+        return refused(tape.refusal);
 
     tape_file found = tape_read_file(pulses, tape.count, 0, header, sizeof header, data, sizeof data);
-    if (found.refusal != TAPE_ACCEPTED)
-        return refused(found.refusal, found.block, found.place);
+    if (found.refusal.number != TAPE_ACCEPTED)
+        return refused(found.refusal);
 
     tell(found, tape_shown_name(header, sizeof header));
     size_t n = found.end - found.start;

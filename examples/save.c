@@ -13,9 +13,9 @@ static uint8_t data[TAPE_MOST_BYTES + 1];
 static uint32_t pulses[MOST_PULSES];
 static uint8_t file[TAPE_TAP_HEADER_BYTES + MOST_PULSES];
 
-static int refused(tape_put put)
+static int refused(tape_refusal why)
 {
-    fprintf(stderr, "refused %u %u %llu\n", (unsigned)put.refusal, (unsigned)put.block, (unsigned long long)put.place);
+    fprintf(stderr, "refused %u %u %llu\n", (unsigned)why.number, (unsigned)why.block, (unsigned long long)why.place);
     return 1;
 }
 
@@ -34,11 +34,11 @@ int main(int argc, char **argv)
     }
     tape_put strip = tape_write_file(1, (uint16_t)start, (uint16_t)(start + n), (const uint8_t *)argv[1], strlen(argv[1]),
                                      data, n, LEADER, LEADER, pulses, MOST_PULSES);
-    if (strip.refusal != TAPE_ACCEPTED)
-        return refused(strip);
+    if (strip.refusal.number != TAPE_ACCEPTED)
+        return refused(strip.refusal);
 
     tape_put tape = tape_write_tap(pulses, strip.count, 1, file, sizeof file);
-    if (tape.refusal != TAPE_ACCEPTED)
-        return refused(tape);
+    if (tape.refusal.number != TAPE_ACCEPTED)
+        return refused(tape.refusal);
     return fwrite(file, 1, tape.count, stdout) == tape.count && fflush(stdout) == 0 ? 0 : 1;
 }

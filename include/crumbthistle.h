@@ -12,10 +12,8 @@
  * There is no heap, no global state, no file access, and no setting up. Calls on different buffers may run at the same time. The archive
  * is for x86-64 Linux and uses nothing of the C library but memcpy and memset.
  *
- * Refusals. Every answer but tape_span begins with `refusal`, `block` and `place`. `refusal` 0 means accepted; `block` and `place` are then
- * 0. Any other `refusal` is one of the numbers below; then every number after `place` is 0, and no buffer has been altered. `block` is 1 for
- * a program file's data block, else 0. `place` is 0 where none is named below. Where several refusals apply, the first in the call's order
- * is given.
+ * Refusals. Every answer begins with a tape_refusal. Where a call refuses, every number of its answer after that is 0, and no buffer has
+ * been altered. Where several refusals apply, the first in the call's order is given.
  *
  * Pulses are full periods as counts of CPU cycles. 200 to 439 are short, 440 to 607 medium, 608 to 959 long, all others noise; written are
  * 360, 520 and 688. A place is an index, from 0 on.
@@ -29,6 +27,10 @@
 #ifdef __cplusplus
 extern "C" {
 #endif
+
+/* The version of this interface. It is raised with every change of a call, a struct or a number below that a program which was built
+ * before would notice. */
+#define TAPE_VERSION 1
 
 enum {
     TAPE_ACCEPTED = 0,
@@ -62,21 +64,25 @@ enum {
 #define TAPE_BLOCK_PULSES(n, leader) ((size_t)(leader) + 40 * ((size_t)(n) + 10) + 122)
 #define TAPE_FILE_PULSES(len, leader0, leader1) (TAPE_BLOCK_PULSES(TAPE_HEADER_BYTES, leader0) + TAPE_BLOCK_PULSES(len, leader1))
 
+/* Whether a call refused, and why. `number` is one of the refusals above, or TAPE_ACCEPTED, and then `block` and `place` are 0 too. `block`
+ * is 1 for a program file's data block, else 0. `place` is 0 where none is named above. */
+typedef struct { uint32_t number, block; uint64_t place; } tape_refusal;
+
 /* What a writer answers: how many pulses or bytes were put. */
-typedef struct { uint32_t refusal, block; uint64_t place; uint64_t count; } tape_put;
+typedef struct { tape_refusal refusal; uint64_t count; } tape_put;
 
 /* What the block reader answers: the payload bytes put, the place where the countdown starts, and the place after copy two. */
-typedef struct { uint32_t refusal, block; uint64_t place; uint64_t n, start, end; } tape_block;
+typedef struct { tape_refusal refusal; uint64_t n, start, end; } tape_block;
 
 /* What the file reader answers: type, start and end address (one past the last byte), and `stop`, the place after the data block's copy
  * two. */
-typedef struct { uint32_t refusal, block; uint64_t place; uint32_t type, start, end; uint64_t stop; } tape_file;
+typedef struct { tape_refusal refusal; uint32_t type, start, end; uint64_t stop; } tape_file;
 
 /* What the TAP reader answers: the version, and how many durations were put. */
-typedef struct { uint32_t refusal, block; uint64_t place; uint32_t version; uint64_t count; } tape_tap;
+typedef struct { tape_refusal refusal; uint32_t version; uint64_t count; } tape_tap;
 
-/* A part of a buffer. */
-typedef struct { uint64_t offset, length; } tape_span;
+/* A part of a buffer: where it begins, and how many bytes it has. */
+typedef struct { tape_refusal refusal; uint64_t offset, length; } tape_span;
 
 /* Writes a block: a leader of that many short pulses, and the n payload bytes with countdown and checksum, twice. `out` has `room` places
  * and needs TAPE_BLOCK_PULSES(n, leader). Refuses, in this order: 1, 14, 2. */
@@ -114,8 +120,8 @@ tape_put tape_pack_header(uint8_t type, uint16_t start, uint16_t end, const uint
 /* Type and addresses of a header of 192 bytes; `stop` is 0. Refuses, in this order: 1, 8. */
 tape_file tape_unpack_header(const uint8_t *header, size_t len);
 
-/* Where the shown name stands in a header: the first 16 bytes of the name, from offset 5 on, without the spaces at their end. A name of
- * spaces has length 0. `offset` and `length` are both 0 for bytes that tape_unpack_header refuses. */
+/* Where the shown name stands in a header of 192 bytes: the first 16 bytes of the name, from offset 5 on, without the spaces at their end. A
+ * name of spaces has length 0. Refuses, in this order: 1, 8. */
 tape_span tape_shown_name(const uint8_t *header, size_t len);
 
 /* Writes durations, in cycles, as a TAP file of version 0 or 1. Version 0 has a form for the multiples of 8 from 8 to 2,048, version 1 for 0
@@ -129,11 +135,11 @@ tape_tap tape_read_tap(const uint8_t *file, size_t len, uint32_t *out, size_t ro
 /* Bytes of stack that each call needs, with its return address: read off the machine code of this archive and rounded up to a multiple of
  * 16. What memcpy and memset of the C library need is not counted. */
 enum {
-    TAPE_STACK_WRITE_BLOCK = 752,
+    TAPE_STACK_WRITE_BLOCK = 800,
     TAPE_STACK_READ_BLOCK = 1328,
-    TAPE_STACK_WRITE_FILE = 1184,
-    TAPE_STACK_READ_FILE = 1632,
-    TAPE_STACK_PACK_HEADER = 240,
+    TAPE_STACK_WRITE_FILE = 1232,
+    TAPE_STACK_READ_FILE = 1648,
+    TAPE_STACK_PACK_HEADER = 16,
     TAPE_STACK_UNPACK_HEADER = 16,
     TAPE_STACK_SHOWN_NAME = 16,
     TAPE_STACK_WRITE_TAP = 64,

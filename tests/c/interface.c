@@ -16,53 +16,60 @@ static uint32_t pulses[PULSES], block[PULSES];
 static size_t count, block_count, tap_len;
 
 /* Layout and numbers, as the library has them. */
+_Static_assert(TAPE_VERSION == 1, "another version has another layout");
 #define AT(type, field, offset) _Static_assert(offsetof(type, field) == (offset), #type "." #field)
-#define FRONT(type, size) AT(type, refusal, 0); AT(type, block, 4); AT(type, place, 8); _Static_assert(sizeof(type) == (size), #type)
-FRONT(tape_put, 24); AT(tape_put, count, 16);
-FRONT(tape_block, 40); AT(tape_block, n, 16); AT(tape_block, start, 24); AT(tape_block, end, 32);
-FRONT(tape_file, 40); AT(tape_file, type, 16); AT(tape_file, start, 20); AT(tape_file, end, 24); AT(tape_file, stop, 32);
-FRONT(tape_tap, 32); AT(tape_tap, version, 16); AT(tape_tap, count, 24);
-AT(tape_span, offset, 0); AT(tape_span, length, 8); _Static_assert(sizeof(tape_span) == 16, "tape_span");
+#define SIZE(type, size) _Static_assert(sizeof(type) == (size), #type)
+SIZE(tape_refusal, 16); AT(tape_refusal, number, 0); AT(tape_refusal, block, 4); AT(tape_refusal, place, 8);
+SIZE(tape_put, 24); AT(tape_put, refusal, 0); AT(tape_put, count, 16);
+SIZE(tape_block, 40); AT(tape_block, refusal, 0); AT(tape_block, n, 16); AT(tape_block, start, 24); AT(tape_block, end, 32);
+SIZE(tape_file, 40); AT(tape_file, refusal, 0); AT(tape_file, type, 16); AT(tape_file, start, 20); AT(tape_file, end, 24); AT(tape_file, stop, 32);
+SIZE(tape_tap, 32); AT(tape_tap, refusal, 0); AT(tape_tap, version, 16); AT(tape_tap, count, 24);
+SIZE(tape_span, 32); AT(tape_span, refusal, 0); AT(tape_span, offset, 16); AT(tape_span, length, 24);
 
 /* Each refusal that a small input gives, by its name. */
 static void refusals(void)
 {
     uint8_t file[24] = "C64-TAPE-RAW\1\0\0\0\1\0\0\0\0";
     uint32_t odd = 7;
-    EXPECT(tape_write_block(bytes, N + 1, LEADER0, block, PULSES).refusal == TAPE_WRONG_SIZE);
-    EXPECT(tape_write_block(bytes, N, LEADER0, block, TAPE_BLOCK_PULSES(N, LEADER0) - 1).refusal == TAPE_NO_ROOM);
-    EXPECT(tape_write_block(bytes, N, TAPE_LEAST_LEADER - 1, block, PULSES).refusal == TAPE_WRONG_LEADER);
-    EXPECT(tape_write_block(bytes, N, TAPE_MOST_LEADER + 1, block, PULSES).refusal == TAPE_WRONG_LEADER);
-    EXPECT(tape_write_file(1, 0, 1, bytes, TAPE_NAME_BYTES + 1, bytes, 1, LEADER0, LEADER1, pulses, PULSES).refusal == TAPE_WRONG_SIZE);
-    EXPECT(tape_write_file(2, 0, 1, bytes, 1, bytes, 1, LEADER0, LEADER1, pulses, PULSES).refusal == TAPE_WRONG_TYPE);
-    EXPECT(tape_write_file(1, 0, 2, bytes, 1, bytes, 1, LEADER0, LEADER1, pulses, PULSES).refusal == TAPE_WRONG_ADDRESSES);
-    EXPECT(tape_write_file(1, 0, 1, bytes, 1, bytes, 1, LEADER0, 0, pulses, PULSES).block == 1);
-    EXPECT(tape_read_tap(file, 20, pulses, PULSES).refusal == TAPE_WRONG_TAP_HEADER);
-    EXPECT(tape_read_tap(file, 21, pulses, PULSES).refusal == TAPE_CUT_LONG_FORM);
-    EXPECT(tape_write_tap(&odd, 1, 1, tap, sizeof tap).refusal == TAPE_NO_TAP_FORM);
-    EXPECT(tape_write_tap(&odd, 1, 2, tap, sizeof tap).refusal == TAPE_WRONG_TAP_VERSION);
-    EXPECT(tape_write_tap(&odd, TAPE_MOST_DURATIONS + 1, 1, tap, 0).refusal == TAPE_WRONG_SIZE);
+    EXPECT(tape_write_block(bytes, N + 1, LEADER0, block, PULSES).refusal.number == TAPE_WRONG_SIZE);
+    EXPECT(tape_write_block(bytes, N, LEADER0, block, TAPE_BLOCK_PULSES(N, LEADER0) - 1).refusal.number == TAPE_NO_ROOM);
+    EXPECT(tape_write_block(bytes, N, TAPE_LEAST_LEADER - 1, block, PULSES).refusal.number == TAPE_WRONG_LEADER);
+    EXPECT(tape_write_block(bytes, N, TAPE_MOST_LEADER + 1, block, PULSES).refusal.number == TAPE_WRONG_LEADER);
+    EXPECT(tape_write_file(1, 0, 1, bytes, TAPE_NAME_BYTES + 1, bytes, 1, LEADER0, LEADER1, pulses, PULSES).refusal.number == TAPE_WRONG_SIZE);
+    EXPECT(tape_write_file(2, 0, 1, bytes, 1, bytes, 1, LEADER0, LEADER1, pulses, PULSES).refusal.number == TAPE_WRONG_TYPE);
+    EXPECT(tape_write_file(1, 0, 2, bytes, 1, bytes, 1, LEADER0, LEADER1, pulses, PULSES).refusal.number == TAPE_WRONG_ADDRESSES);
+    EXPECT(tape_write_file(1, 0, 1, bytes, 1, bytes, 1, LEADER0, 0, pulses, PULSES).refusal.block == 1);
+    EXPECT(tape_unpack_header(header, sizeof header).refusal.number == TAPE_WRONG_TYPE);
+    EXPECT(tape_shown_name(header, sizeof header).refusal.number == TAPE_WRONG_TYPE);
+    EXPECT(tape_shown_name(header, sizeof header - 1).refusal.number == TAPE_WRONG_SIZE);
+    EXPECT(tape_read_tap(file, 20, pulses, PULSES).refusal.number == TAPE_WRONG_TAP_HEADER);
+    EXPECT(tape_read_tap(file, 21, pulses, PULSES).refusal.number == TAPE_CUT_LONG_FORM);
+    EXPECT(tape_write_tap(&odd, 1, 1, tap, sizeof tap).refusal.number == TAPE_NO_TAP_FORM);
+    EXPECT(tape_write_tap(&odd, 1, 2, tap, sizeof tap).refusal.number == TAPE_WRONG_TAP_VERSION);
+    EXPECT(tape_write_tap(&odd, TAPE_MOST_DURATIONS + 1, 1, tap, 0).refusal.number == TAPE_WRONG_SIZE);
 }
 
 /* A null pointer with length 0 is empty, where it is refused and where it is not. */
 static void null_pointers(void)
 {
     uint8_t file[TAPE_TAP_HEADER_BYTES];
-    EXPECT(tape_write_block(NULL, 0, LEADER0, NULL, 0).refusal == TAPE_WRONG_SIZE);
-    EXPECT(tape_read_block(NULL, 0, 0, 1, data, 1).refusal == TAPE_NO_START);
-    EXPECT(tape_read_block(NULL, 0, 0, 1, NULL, 0).refusal == TAPE_NO_ROOM);
-    EXPECT(tape_write_file(1, 1, 2, NULL, 0, bytes, 1, LEADER0, LEADER1, NULL, 0).refusal == TAPE_NO_ROOM);
+    EXPECT(tape_write_block(NULL, 0, LEADER0, NULL, 0).refusal.number == TAPE_WRONG_SIZE);
+    EXPECT(tape_read_block(NULL, 0, 0, 1, data, 1).refusal.number == TAPE_NO_START);
+    EXPECT(tape_read_block(NULL, 0, 0, 1, NULL, 0).refusal.number == TAPE_NO_ROOM);
+    EXPECT(tape_write_file(1, 1, 2, NULL, 0, bytes, 1, LEADER0, LEADER1, NULL, 0).refusal.number == TAPE_NO_ROOM);
     EXPECT(tape_write_file(1, 1, 2, NULL, 0, bytes, 1, LEADER0, LEADER1, pulses, PULSES).count == TAPE_FILE_PULSES(1, LEADER0, LEADER1));
-    EXPECT(tape_read_file(NULL, 0, 0, NULL, 0, NULL, 0).refusal == TAPE_NO_START);
-    EXPECT(tape_pack_header(1, 1, 2, NULL, 0, NULL, 0).refusal == TAPE_NO_ROOM);
+    EXPECT(tape_read_file(NULL, 0, 0, NULL, 0, NULL, 0).refusal.number == TAPE_NO_START);
+    EXPECT(tape_pack_header(1, 1, 2, NULL, 0, NULL, 0).refusal.number == TAPE_NO_ROOM);
     EXPECT(tape_pack_header(1, 1, 2, NULL, 0, header, sizeof header).count == TAPE_HEADER_BYTES);
-    EXPECT(tape_shown_name(header, sizeof header).offset == 5 && tape_shown_name(header, sizeof header).length == 0);
-    EXPECT(tape_unpack_header(NULL, 0).refusal == TAPE_WRONG_SIZE);
-    EXPECT(tape_shown_name(NULL, 0).offset == 0 && tape_shown_name(NULL, 0).length == 0);
-    EXPECT(tape_write_tap(NULL, 0, 1, NULL, 0).refusal == TAPE_NO_ROOM);
+    tape_span name = tape_shown_name(header, sizeof header);
+    EXPECT(name.refusal.number == TAPE_ACCEPTED && name.offset == 5 && name.length == 0);
+    EXPECT(tape_unpack_header(NULL, 0).refusal.number == TAPE_WRONG_SIZE);
+    name = tape_shown_name(NULL, 0);
+    EXPECT(name.refusal.number == TAPE_WRONG_SIZE && name.offset == 0 && name.length == 0);
+    EXPECT(tape_write_tap(NULL, 0, 1, NULL, 0).refusal.number == TAPE_NO_ROOM);
     EXPECT(tape_write_tap(NULL, 0, 1, file, sizeof file).count == TAPE_TAP_HEADER_BYTES);
-    EXPECT(tape_read_tap(file, sizeof file, NULL, 0).refusal == TAPE_ACCEPTED);
-    EXPECT(tape_read_tap(NULL, 0, NULL, 0).refusal == TAPE_WRONG_TAP_HEADER);
+    EXPECT(tape_read_tap(file, sizeof file, NULL, 0).refusal.number == TAPE_ACCEPTED);
+    EXPECT(tape_read_tap(NULL, 0, NULL, 0).refusal.number == TAPE_WRONG_TAP_HEADER);
 }
 
 /* Each call once, accepted, with every number of its answer, in an order in which one makes the input of the next. */
@@ -77,7 +84,7 @@ static void write_file(void)
 static void read_file(void)
 {
     tape_file f = tape_read_file(pulses, count, 0, header, sizeof header, data, sizeof data);
-    EXPECT(f.refusal == TAPE_ACCEPTED && f.type == 3 && f.start == START && f.end == START + N && f.stop == count - 61);
+    EXPECT(f.refusal.number == TAPE_ACCEPTED && f.type == 3 && f.start == START && f.end == START + N && f.stop == count - 61);
 }
 
 static void write_block(void)
@@ -89,7 +96,7 @@ static void write_block(void)
 static void read_block(void)
 {
     tape_block b = tape_read_block(block, block_count, 0, N, data, sizeof data);
-    EXPECT(b.refusal == TAPE_ACCEPTED && b.n == N && b.start == LEADER1 && b.end == block_count - 61);
+    EXPECT(b.refusal.number == TAPE_ACCEPTED && b.n == N && b.start == LEADER1 && b.end == block_count - 61);
 }
 
 static void pack_header(void)
@@ -100,13 +107,13 @@ static void pack_header(void)
 static void unpack_header(void)
 {
     tape_file f = tape_unpack_header(header, sizeof header);
-    EXPECT(f.refusal == TAPE_ACCEPTED && f.type == 4 && f.start == 1 && f.end == 2 && f.stop == 0);
+    EXPECT(f.refusal.number == TAPE_ACCEPTED && f.type == 4 && f.start == 1 && f.end == 2 && f.stop == 0);
 }
 
 static void shown_name(void)
 {
     tape_span name = tape_shown_name(header, sizeof header);
-    EXPECT(name.offset == 5 && name.length == 16);
+    EXPECT(name.refusal.number == TAPE_ACCEPTED && name.offset == 5 && name.length == 16);
 }
 
 static void write_tap(void)
@@ -118,7 +125,7 @@ static void write_tap(void)
 static void read_tap(void)
 {
     tape_tap t = tape_read_tap(tap, tap_len, pulses, PULSES);
-    EXPECT(t.refusal == TAPE_ACCEPTED && t.version == 1 && t.count == count);
+    EXPECT(t.refusal.number == TAPE_ACCEPTED && t.version == 1 && t.count == count);
 }
 
 /* Turns a bit round: its two pulses change places. */
@@ -134,18 +141,18 @@ static void spoilt(void)
 {
     size_t one = LEADER1, two = LEADER1 + 20 * (N + 10) + 61;
     tape_block b = tape_read_block(block, block_count - 62, 0, N, data, sizeof data);
-    EXPECT(b.refusal == TAPE_CUT_SHORT && b.place == LEADER1 && b.n == 0 && b.start == 0 && b.end == 0);
+    EXPECT(b.refusal.number == TAPE_CUT_SHORT && b.refusal.place == LEADER1 && b.n == 0 && b.start == 0 && b.end == 0);
     turn(block + one + 20 * 9 + 2);
     turn(block + one + 20 * 9 + 4);
     b = tape_read_block(block, block_count, 0, N, data, sizeof data);
-    EXPECT(b.refusal == TAPE_WRONG_CHECKSUM && b.place == N);
+    EXPECT(b.refusal.number == TAPE_WRONG_CHECKSUM && b.refusal.place == N);
     block[one + 20 * 11] = block[two + 20 * 11] = 0;
     b = tape_read_block(block, block_count, 0, N, data, sizeof data);
-    EXPECT(b.refusal == TAPE_LOST_BYTE && b.place == 2);
+    EXPECT(b.refusal.number == TAPE_LOST_BYTE && b.refusal.place == 2);
     block[one + 20 * 3] = block[two + 20 * 3] = 0;
     b = tape_read_block(block, block_count, 0, N, data, sizeof data);
-    EXPECT(b.refusal == TAPE_WRONG_COUNTDOWN && b.place == 3);
-    EXPECT(tape_read_block(block, block_count, LEADER1, N, data, sizeof data).refusal == TAPE_NO_START);
+    EXPECT(b.refusal.number == TAPE_WRONG_COUNTDOWN && b.refusal.place == 3);
+    EXPECT(tape_read_block(block, block_count, LEADER1, N, data, sizeof data).refusal.number == TAPE_NO_START);
 }
 
 /* Runs a call on a painted stack, and answers how far down the paint is gone. */

@@ -17,15 +17,16 @@ use Rattle.lists.proofs.PlaceLaws.{length-tabulate, getD-tabulate, below-append
 use Rattle.lists.proofs.PartLaws.{part-past}
 use Rattle.refusal.specs.declared.Reason.the-variants.{WrongSize, WrongLeader}
 use Rattle.refusal.specs.declared.Refusal.{Refusal}
-use Rattle.refusal.specs.Refusal.{accepted, told, refusalAt}
-use Rattle.refusal.proofs.OutcomeLaws.{accepted-next}
+use Rattle.refusal.specs.Refusal.{refusalAt}
+use Rattle.refusal.specs.Outcome.{accepted, refusedWith}
+use Rattle.refusal.proofs.OutcomeLaws.{cond-accepted, ifRoom-room}
 use Rattle.pulse.specs.declared.Class.{Class}
 use Rattle.pulse.specs.declared.Class.the-variants.{Short}
 use Rattle.pulse.specs.Pulse.{writtenAs}
 use Rattle.byte.specs.Byte.{byteClasses, bytesClasses, twenty}
 use Rattle.byte.proofs.CodingLaws.{length-byte, length-bytes}
-use Rattle.block.specs.Block.{xorFrom, checksum, firstByte, countdown, copyBytes, copyClasses, copyPulses, trailer, blockClasses, blockPulses, wrongSize, wrongLeader, measureBlock, writeBlock}
-use Rattle.block.specs.Reading.{copyTwo, endOf}
+use Rattle.start.specs.Copies.{copyPulses, copyTwo, endOf}
+use Rattle.block.specs.Block.{xorFrom, checksum, firstByte, countdown, copyBytes, copyClasses, trailer, blockClasses, blockPulses, wrongSize, wrongLeader, measureBlock, writeBlock, blockLength}
 use Rattle.block.specs.Damage.{oneAt, twoAt}
 
 -- ---- bytesClasses
@@ -36,7 +37,7 @@ bytes-append [] ys = refl
 bytes-append (x ∷ xs) ys = rw append-assoc (ap (λ (cs : List Class). byteClasses x ++ cs) (bytes-append xs ys))
 
 -- the twenty pulses of byte i
-pub bytes-at : (bs : List ℕ) (rest : List Class) (i : ℕ) → i < length bs → twenty (bytesClasses bs ++ rest) (20 * i) ≡ byteClasses (getD bs i 0)
+bytes-at : (bs : List ℕ) (rest : List Class) (i : ℕ) → i < length bs → twenty (bytesClasses bs ++ rest) (20 * i) ≡ byteClasses (getD bs i 0)
 unfolding bytesClasses
 bytes-at [] rest i h = absurd (omega arith)
 bytes-at (b ∷ bs) rest zero h = rw append-assoc (take-at (byteClasses b) (bytesClasses bs ++ rest) 20 (length-byte b))
@@ -51,7 +52,7 @@ unfolding xorFrom
 xorFrom-lt x [] h below = h
 xorFrom-lt x (b ∷ bs) h below = xorFrom-lt (bitXor x b) bs (xor-lt 8 x b h (below 0)) (λ i. below (suc i))
 
-pub checksum-lt : (payload : List ℕ) → Below 256 payload → checksum payload < 256
+checksum-lt : (payload : List ℕ) → Below 256 payload → checksum payload < 256
 checksum-lt payload below = xorFrom-lt 0 payload (lit< tt) below
 
 -- ---- countdown
@@ -67,7 +68,7 @@ countdown-at copy i h = getD-tabulate (λ j. firstByte copy - j) 9 0 i h ∙ rw 
 -- ---- copyBytes
 
 module _ (copy : ℕ) (payload : List ℕ) where
-  pub length-copyBytes : length (copyBytes copy payload) ≡ length payload + 10
+  length-copyBytes : length (copyBytes copy payload) ≡ length payload + 10
   unfolding copyBytes
   length-copyBytes = simp (length-append, length-countdown) (omega arith)
 
@@ -107,7 +108,7 @@ module _ (copy : ℕ) (payload : List ℕ) where
   length-copy = length-bytes (copyBytes copy payload) ∙ ap (λ n. 20 * n) (length-copyBytes copy payload)
 
   -- byte place i of a copy
-  pub copy-at : (rest : List Class) (i : ℕ) → i < length payload + 10
+  copy-at : (rest : List Class) (i : ℕ) → i < length payload + 10
       → twenty (copyClasses copy payload ++ rest) (20 * i) ≡ byteClasses (getD (copyBytes copy payload) i 0)
   unfolding copyClasses
   copy-at rest i h = bytes-at (copyBytes copy payload) rest i (rw (length-copyBytes copy payload) h)
@@ -115,11 +116,11 @@ module _ (copy : ℕ) (payload : List ℕ) where
 -- ---- blockClasses
 
 module _ (k : ℕ) (payload : List ℕ) where
-  pub length-block : length (blockClasses k payload) ≡ k + 40 * (length payload + 10) + 122
+  pub length-block : length (blockClasses k payload) ≡ blockLength k (length payload)
   unfolding blockClasses trailer
   length-block = simp (length-append, length-copy, length-replicate) (omega arith)
 
-  pub length-blockPulses : length (blockPulses k payload) ≡ k + 40 * (length payload + 10) + 122
+  pub length-blockPulses : length (blockPulses k payload) ≡ blockLength k (length payload)
   length-blockPulses = length-map (blockClasses k payload) writtenAs ∙ length-block
 
   pub leader-at : part (blockClasses k payload) 0 k ≡ replicate k Short
@@ -164,20 +165,20 @@ pub record Within (least most n : ℕ) : Type 0 where
   pub low : least ≤ n
   pub high : n ≤ most
 
-pub size-right : (n : ℕ) → wrongSize n ≡ false → Within 1 8192 n
-size-right n e =
+pub wrongSize-within : (n : ℕ) → wrongSize n ≡ false → Within 1 8192 n
+wrongSize-within n e =
     let h = or-false (eqb n 0) (ltb 8192 n) e in
     let some : n ≡ 0 → ⊥ = eqb-false n 0 (h .0) in
     record { low = elim (decLt 0 n) [ yes l ↦ l | no l ↦ absurd (some (omega arith)) ]; high = ltb-false 8192 n (h .1) }
 
-pub right-size : (n : ℕ) → Within 1 8192 n → wrongSize n ≡ false
-right-size n w = rw (ne-eqb n 0 (λ e. omega arith), le-ltb 8192 n (w .high))
+pub wrongSize-right : (n : ℕ) → Within 1 8192 n → wrongSize n ≡ false
+wrongSize-right n w = rw (ne-eqb n 0 (λ e. omega arith), le-ltb 8192 n (w .high))
 
-pub leader-right : (k : ℕ) → wrongLeader k ≡ false → Within 64 65535 k
-leader-right k e = let h = or-false (ltb k 64) (ltb 65535 k) e in record { low = ltb-false k 64 (h .0); high = ltb-false 65535 k (h .1) }
+pub wrongLeader-within : (k : ℕ) → wrongLeader k ≡ false → Within 64 65535 k
+wrongLeader-within k e = let h = or-false (ltb k 64) (ltb 65535 k) e in record { low = ltb-false k 64 (h .0); high = ltb-false 65535 k (h .1) }
 
-pub right-leader : (k : ℕ) → Within 64 65535 k → wrongLeader k ≡ false
-right-leader k w = rw (le-ltb k 64 (w .low), le-ltb 65535 k (w .high))
+pub wrongLeader-right : (k : ℕ) → Within 64 65535 k → wrongLeader k ≡ false
+wrongLeader-right k w = rw (le-ltb k 64 (w .low), le-ltb 65535 k (w .high))
 
 -- ---- measureBlock
 
@@ -185,23 +186,23 @@ right-leader k w = rw (le-ltb k 64 (w .low), le-ltb 65535 k (w .high))
 pub record Measured (k n pulses : ℕ) : Type 0 where
   pub size : wrongSize n ≡ false
   pub leader : wrongLeader k ≡ false
-  pub count : k + 40 * (n + 10) + 122 ≡ pulses
+  pub count : blockLength k n ≡ pulses
 
 module _ (k n : ℕ) where
-  pub measure-accepted : (pulses : ℕ) → measureBlock k n ≡ accepted pulses → Measured k n pulses
+  pub measureBlock-accepted : (pulses : ℕ) → measureBlock k n ≡ accepted pulses → Measured k n pulses
   unfolding measureBlock
-  measure-accepted pulses e =
-      let a = accepted-next (wrongSize n) (refusalAt WrongSize 0) _ pulses e in
-      let b = accepted-next (wrongLeader k) (refusalAt WrongLeader 0) _ pulses (a .1) in
+  measureBlock-accepted pulses e =
+      let a = cond-accepted (wrongSize n) (refusalAt WrongSize 0) _ pulses e in
+      let b = cond-accepted (wrongLeader k) (refusalAt WrongLeader 0) _ pulses (a .1) in
       record { size = a .0; leader = b .0; count = cc }
 
   -- a payload of a right size is refused for its leader
-  pub measure-refused : (r : Refusal) → wrongSize n ≡ false → measureBlock k n ≡ told r → wrongLeader k ≡ true
+  pub measureBlock-refused : (r : Refusal) → wrongSize n ≡ false → measureBlock k n ≡ refusedWith r → wrongLeader k ≡ true
   unfolding measureBlock
-  measure-refused r size e = cond-first (wrongLeader k) _ _ (told r) (λ q. let z : _≡_ {A = ℕ} 0 1 = cc in omega arith) (rw size at e) .0
+  measureBlock-refused r size e = cond-first (wrongLeader k) _ _ (refusedWith r) (λ q. let z : _≡_ {A = ℕ} 0 1 = cc in omega arith) (rw size at e) .0
 
 -- where there is room for a block that was measured, it is written
-pub write-measured : (room k : ℕ) (payload : List ℕ) {pulses : ℕ} → Measured k (length payload) pulses → pulses ≤ room
+pub writeBlock-measured : (room k : ℕ) (payload : List ℕ) {pulses : ℕ} → Measured k (length payload) pulses → pulses ≤ room
     → writeBlock room k payload ≡ accepted (blockPulses k payload)
 unfolding writeBlock measureBlock
-write-measured room k payload m h = rw (m .size, m .leader, m .count, le-ltb room _ h)
+writeBlock-measured room k payload m h = rw (m .size, m .leader, m .count, ifRoom-room room _ _ h)

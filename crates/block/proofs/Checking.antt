@@ -14,23 +14,23 @@ use lib.Bits.{bitXor, and-le-l, and-le-r, xor-add-and, xor-self}
 use lib.Dec.{eqb}
 use lib.ListN.{length}
 use Rattle.lists.specs.Places.{firstFrom, tabulate}
-use Rattle.lists.specs.Flags.{flagAt, raised}
 use Rattle.lists.proofs.PlaceLaws.{none-first, tabulate-snoc, tabulate-same}
 use Rattle.lists.proofs.LoopLaws.{firstLeft, first-begun, first-passed, first-here, first-over, tableLeft, table-begun, table-next, table-over}
-use Rattle.lists.proofs.FlagLaws.{length-raised, raised-same, raised-other}
 use Rattle.pulse.specs.declared.Thresholds.{Thresholds}
 use Rattle.pulse.specs.declared.Class.{Class}
 use Rattle.pulse.specs.Pulse.{classes}
 use Rattle.byte.specs.declared.ByteRead.{ByteRead}
 use Rattle.byte.specs.declared.ByteRead.the-variants.{Good, Bad}
-use Rattle.byte.specs.Byte.{byteAt, isBad}
-use Rattle.byte.specs.Decoder.{bitsAt}
+use Rattle.byte.specs.Byte.{byteAt}
+use Rattle.byte.specs.private.Decoder.{bitsAt}
 use Rattle.byte.proofs.ValueLaws.{good-bits}
-use Rattle.block.specs.declared.read.Check.{Check}
-use Rattle.block.specs.declared.read.Check.the-variants.{Sound, LostAt, WrongSum}
+use Rattle.block.specs.declared.rules.Check.{Check}
+use Rattle.block.specs.declared.rules.Check.the-variants.{Sound, LostAt, WrongSum}
 use Rattle.block.specs.Block.{xorFrom, checksum}
 use Rattle.block.specs.Reading.{Place, FromOne, FromTwo, Lost, placeOf, noValue, placeValue, placeAt, isLost, valueAt, valuesAt, sumHolds}
-use Rattle.block.specs.private.Checks.{checkOf, readAs, badInOne, flagged, Down, Flags, Checked, soundAt, pickedAt}
+use Rattle.block.specs.private.Flags.{flagAt, raised}
+use Rattle.block.specs.private.Checks.{checkOf, readAs, notFromOne, flagged, NoneRaised, Flags, Checked, soundAt, pickedAt}
+use Rattle.block.proofs.FlagLaws.{length-raised, raised-same, raised-other}
 
 -- ---- The sum: with the checksum XORed too it is 0 exactly where the checksum holds
 
@@ -67,35 +67,35 @@ module _ (cs : List Class) (one two i : ℕ) (row₀ : List ℕ) where
   at = 20 * (9 + i)
 
   -- the byte to be read is copy one's; or it is copy two's, copy one's is bad and the flag is raised
-  abbrev pub Turn : (row : List ℕ) (from : ℕ) → Type 0
-  Turn row from = ((from ≡ one + at) × (row ≡ row₀)) ⊎ ((from ≡ two + at) × ((byteAt cs (one + at) ≡ Bad) × (row ≡ raised row₀ i)))
+  abbrev pub AtCopy : (row : List ℕ) (from : ℕ) → Type 0
+  AtCopy row from = ((from ≡ one + at) × (row ≡ row₀)) ⊎ ((from ≡ two + at) × ((byteAt cs (one + at) ≡ Bad) × (row ≡ raised row₀ i)))
 
   abbrev Placed : (r : ByteRead) (row : List ℕ) → Type 0
-  Placed r row = (r ≡ readAs (placeAt cs one two i)) × (row ≡ flagged cs one i row₀)
+  Placed r row = (r ≡ readAs (placeAt cs one two i)) × (row ≡ flagged cs one two i row₀)
 
-  module _ {row : List ℕ} {from : ℕ} (u : Turn row from) where
-    pub turn-long : length row ≡ length row₀
-    turn-long = elim u [
+  module _ {row : List ℕ} {from : ℕ} (u : AtCopy row from) where
+    pub atCopy-long : length row ≡ length row₀
+    atCopy-long = elim u [
       | inl h ↦ ap length (h .1)
       | inr h ↦ ap length (h .1 .1) ∙ length-raised row₀ i
     ]
 
-    pub turn-good : {v : ℕ} → byteAt cs from ≡ Good v → Placed (Good v) row
+    pub atCopy-good : {v : ℕ} → byteAt cs from ≡ Good v → Placed (Good v) row
     unfolding placeAt
-    turn-good e = elim u [
+    atCopy-good e = elim u [
       | inl h ↦ (let g = ap (byteAt cs) (sym (h .0)) ∙ e in (rw g, rw g (h .1)))
-      | inr h ↦ (let g = ap (byteAt cs) (sym (h .0)) ∙ e in (rw (h .1 .0, g), rw (h .1 .0) (h .1 .1)))
+      | inr h ↦ (let g = ap (byteAt cs) (sym (h .0)) ∙ e in (rw (h .1 .0, g), rw (h .1 .0, g) (h .1 .1)))
     ]
 
-    pub turn-lost : one < two → from ≡ two + at → byteAt cs from ≡ Bad → Placed Bad row
+    pub atCopy-lost : one < two → from ≡ two + at → byteAt cs from ≡ Bad → Placed Bad row
     unfolding placeAt
-    turn-lost apart last e = elim u [
+    atCopy-lost apart last e = elim u [
       | inl h ↦ absurd (let q = h .0 in omega arith)
-      | inr h ↦ (let g = ap (byteAt cs) (sym (h .0)) ∙ e in (rw (h .1 .0, g), rw (h .1 .0) (h .1 .1)))
+      | inr h ↦ (let g = ap (byteAt cs) (sym (h .0)) ∙ e in (rw (h .1 .0, g), rw (h .1 .0, g) (h .1 .1)))
     ]
 
-    pub turn-next : {row′ : List ℕ} → (from ≡ two + at → ⊥) → byteAt cs from ≡ Bad → row′ ≡ raised row i → Turn row′ (two + at)
-    turn-next first e f = elim u [
+    pub atCopy-next : {row′ : List ℕ} → (from ≡ two + at → ⊥) → byteAt cs from ≡ Bad → row′ ≡ raised row i → AtCopy row′ (two + at)
+    atCopy-next first e f = elim u [
       | inl h ↦ inr (refl, (ap (byteAt cs) (sym (h .0)) ∙ e, f ∙ ap (λ r. raised r i) (h .1)))
       | inr h ↦ absurd (first (h .0))
     ]
@@ -119,11 +119,11 @@ pub record Checking (cs : List Class) (one two n : ℕ) (row₀ row : List ℕ) 
   pub left : firstLeft (isLost cs one two) (n + 1) i ≡ firstFrom (isLost cs one two) (n + 1) 0
   pub summed : xorFrom sum (tableLeft (valueAt cs one two) (n + 1) i) ≡ checksum (valuesAt cs one two (n + 1))
   pub long : length row ≡ length row₀
-  pub flags : Flags cs one i row
+  pub flags : Flags cs one two i row
   pub later : (j : ℕ) → i ≤ j → flagAt row j ≡ false
 
-pub begun : (cs : List Class) (one two n : ℕ) (row : List ℕ) → Down row → Checking cs one two n row row 0 0
-begun cs one two n row down = record {
+pub checking-begun : (cs : List Class) (one two n : ℕ) (row : List ℕ) → NoneRaised row → Checking cs one two n row row 0 0
+checking-begun cs one two n row down = record {
   few = omega arith;
   left = first-begun (isLost cs one two) (n + 1);
   summed = ap (xorFrom 0) (table-begun (valueAt cs one two) (n + 1));
@@ -133,20 +133,20 @@ begun cs one two n row down = record {
 }
 
 module _ {cs : List Class} {one two n : ℕ} {row₀ row : List ℕ} {sum i : ℕ} (u : Checking cs one two n row₀ row sum i) where
-  pub lost : {row′ : List ℕ} → i ≤ n → readAs (placeAt cs one two i) ≡ Bad → Checked cs one two n (LostAt i) row′
-  lost h e =
+  pub checkValues-lost : {row′ : List ℕ} → i ≤ n → readAs (placeAt cs one two i) ≡ Bad → Checked cs one two n (LostAt i) row′
+  checkValues-lost h e =
       let f = sym (u .left) ∙ first-here (isLost cs one two) (n + 1) i (omega arith) (read-lost (placeAt cs one two i) e) in
       record {
         says = ap (λ o. checkOf o (sumHolds cs one two n)) (sym f);
         flags = λ g. absurd (let z : _≡_ {A = ℕ} 0 1 = cc in omega arith);
       }
 
-  pub next : {row′ : List ℕ} {v : ℕ} → i ≤ n → n < 8 * length row₀ → readAs (placeAt cs one two i) ≡ Good v → row′ ≡ flagged cs one i row
+  pub checking-next : {row′ : List ℕ} {v : ℕ} → i ≤ n → n < 8 * length row₀ → readAs (placeAt cs one two i) ≡ Good v → row′ ≡ flagged cs one two i row
       → Checking cs one two n row₀ row′ (bitXor sum v) (i + 1)
   unfolding xorFrom
-  next h room e f =
+  checking-next h room e f =
       let long = u .long in
-      let t = badInOne cs one i in
+      let t = notFromOne (placeAt cs one two i) in
       let p = read-good (placeAt cs one two i) e in
       record {
         few = omega arith;
@@ -182,11 +182,11 @@ module _ {cs : List Class} {one two n : ℕ} {row₀ row : List ℕ} {sum i : �
     ended : {check : Check} (holds : Bool) → check ≡ checkOf none holds → sumHolds cs one two n ≡ holds → Checked cs one two n check row
     ended holds e q = record { says = e ∙ ap₂ checkOf none-lost (sym q); flags = λ g j l. u .flags j (omega arith) }
 
-    pub sound : sum ≡ 0 → Checked cs one two n Sound row
-    sound q = ended true refl (xor-zero expected (valueAt cs one two n) (sym sum-is ∙ q))
+    pub checkValues-sound : sum ≡ 0 → Checked cs one two n Sound row
+    checkValues-sound q = ended true refl (xor-zero expected (valueAt cs one two n) (sym sum-is ∙ q))
 
-    pub wrong : (sum ≡ 0 → ⊥) → Checked cs one two n WrongSum row
-    wrong q = ended false refl (xor-other expected (valueAt cs one two n) (λ e. q (sum-is ∙ e)))
+    pub checkValues-wrongSum : (sum ≡ 0 → ⊥) → Checked cs one two n WrongSum row
+    checkValues-wrongSum q = ended false refl (xor-other expected (valueAt cs one two n) (λ e. q (sum-is ∙ e)))
 
 -- ---- The values
 
@@ -196,13 +196,13 @@ module _ (t : Thresholds) (strip : List ℕ) (one two n : ℕ) where
 
   -- the value of a place that is not lost
   picked : (at : ℕ) (a b : ByteRead) → byteAt cs (one + at) ≡ a → byteAt cs (two + at) ≡ b → noValue (placeOf a b) ≡ false
-      → bitsAt t strip (cond (isBad a) two one + at) ≡ placeValue (placeOf a b)
+      → bitsAt t strip (cond (notFromOne (placeOf a b)) two one + at) ≡ placeValue (placeOf a b)
   picked at (Good v) b p q h = good-bits t strip (one + at) p
   picked at Bad (Good v) p q h = good-bits t strip (two + at) q
   picked at Bad Bad p q h = absurd (let z : _≡_ {A = ℕ} 0 1 = cc in omega arith)
 
   -- where no place is lost, what the row picks are the values
-  pub picked-values : (row : List ℕ) → firstFrom (isLost cs one two) (n + 1) 0 ≡ none → Flags cs one n row
+  pub picked-values : (row : List ℕ) → firstFrom (isLost cs one two) (n + 1) 0 ≡ none → Flags cs one two n row
       → tabulate (pickedAt t strip one two row) n 0 ≡ valuesAt cs one two n
   unfolding placeAt
   picked-values row found flags =
@@ -210,6 +210,6 @@ module _ (t : Thresholds) (strip : List ℕ) (one two n : ℕ) where
       (λ i a b. rw (flags i (omega arith)) (picked (20 * (9 + i)) _ _ refl refl (none-first (isLost cs one two) (n + 1) 0 found i (omega arith) (omega arith))))
 
   -- where no flag is raised, they are those of copy one
-  pub sound-picked : (row : List ℕ) → Down row → tabulate (soundAt t strip (one + 180)) n 0 ≡ tabulate (pickedAt t strip one two row) n 0
+  pub sound-picked : (row : List ℕ) → NoneRaised row → tabulate (soundAt t strip (one + 180)) n 0 ≡ tabulate (pickedAt t strip one two row) n 0
   sound-picked row down =
       tabulate-same (soundAt t strip (one + 180)) (pickedAt t strip one two row) n 0 (λ i a b. rw (down i) (ap (bitsAt t strip) (omega arith)))

@@ -8,7 +8,7 @@ use lib.ListN.{length, getD}
 use Rattle.lists.specs.Places.{tabulate}
 use Rattle.pulse.specs.declared.Class.{Class}
 use Rattle.byte.specs.Byte.{byteAt, isGood}
-use Rattle.block.specs.Reading.{counted}
+use Rattle.block.specs.Reading.{isCounted}
 use Rattle.block.specs.Block.{firstByte, countdown}
 use Rattle.block.proofs.BlockLaws.{length-countdown, countdown-at}
 
@@ -37,11 +37,11 @@ module _ (copy : ℕ) (h : copy < 2) where
 -- ---- Rule 3
 
 module _ (cs : List Class) (one two i : ℕ) where
-  pub counted-one : (v : ℕ) → v ≡ firstByte 0 - i → isGood v (byteAt cs (one + 20 * i)) ≡ true → true ≡ counted cs one two i
-  unfolding counted
-  counted-one v q e = rw (rw q at e)
+  pub isCounted-one : (v : ℕ) → v ≡ firstByte 0 - i → isGood v (byteAt cs (one + 20 * i)) ≡ true → true ≡ isCounted cs one two i
+  unfolding isCounted
+  isCounted-one v q e = rw (rw q at e)
 
-  pub counted-two : (v w : ℕ) {r : Bool} → v ≡ firstByte 0 - i → w ≡ firstByte 1 - i → isGood v (byteAt cs (one + 20 * i)) ≡ false
-      → r ≡ isGood w (byteAt cs (two + 20 * i)) → r ≡ counted cs one two i
-  unfolding counted
-  counted-two v w q q′ e f = rw (rw q at e, ← q′) f
+  pub isCounted-two : (v w : ℕ) {r : Bool} → v ≡ firstByte 0 - i → w ≡ firstByte 1 - i → isGood v (byteAt cs (one + 20 * i)) ≡ false
+      → r ≡ isGood w (byteAt cs (two + 20 * i)) → r ≡ isCounted cs one two i
+  unfolding isCounted
+  isCounted-two v w q q′ e f = rw (rw q at e, ← q′) f

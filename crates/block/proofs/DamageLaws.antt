@@ -8,8 +8,8 @@ use mathlib.Core.Logic.{_⊎_, inl, inr}
 use mathlib.Core.Bool.{true, false, _||_}
 use mathlib.Core.List.{List, [], _∷_, _++_}
 use mathlib.Core.Option.{some}
-use borrow.Author.Tests.{le-ltb, ltb-false, eq-eqb}
-use lib.Dec.{ltb, lit<, lit≤}
+use borrow.Author.Tests.{eq-eqb}
+use lib.Dec.{lit<, lit≤}
 use lib.ListN.{length, getD, length-map, length-take, length-drop, getD-replicate, List·getD-append, List·getD-map}
 use lib.Seq.{getD-take, getD-at}
 use Rattle.lists.specs.Places.{tabulate, part, Below}
@@ -18,9 +18,8 @@ use Rattle.lists.proofs.BoolLaws.{or-right}
 use Rattle.lists.proofs.PlaceLaws.{first-none, tabulate-is}
 use Rattle.lists.proofs.PartLaws.{part-part, getD-part, part-map}
 use Rattle.lists.proofs.BufferLaws.{part-put}
-use Rattle.refusal.specs.declared.Reason.the-variants.{NoRoom}
-use Rattle.refusal.specs.Refusal.{accepted, refusalAt}
-use Rattle.refusal.proofs.OutcomeLaws.{accepted-next, then-accepted}
+use Rattle.refusal.specs.Outcome.{accepted}
+use Rattle.refusal.proofs.OutcomeLaws.{andThen-accepted, ifRoom-accepted}
 use Rattle.pulse.specs.declared.Thresholds.{Thresholds}
 use Rattle.pulse.specs.declared.Class.{Class}
 use Rattle.pulse.specs.declared.Class.the-variants.{Short, Noise}
@@ -31,26 +30,28 @@ use Rattle.byte.specs.declared.ByteRead.the-variants.{Good}
 use Rattle.byte.specs.Byte.{byteClasses, twenty, byteAt, isGood, isBad}
 use Rattle.byte.proofs.ByteLaws.{byteAt-written}
 use Rattle.byte.proofs.DamageLaws.{differ-self, byteAt-differ}
-use Rattle.start.specs.Start.{startOf}
-use Rattle.block.specs.Block.{checksum, copyBytes, trailer, blockClasses, blockPulses, wrongSize, measureBlock, writeBlock}
-use Rattle.block.specs.Reading.{copyTwo, endOf, counted, isMiscounted, Place, noValue, placeValue, placeOf, placeAt, isLost, valueAt, valuesAt, blockAt, readCopies, readAt, readFound, readFrom, readBlock}
+use Rattle.start.specs.Start.{startOf, findStart}
+use Rattle.start.specs.Copies.{copyTwo, endOf}
+use Rattle.start.proofs.StartLaws.{startOf-short}
+use Rattle.start.proofs.CopiesLaws.{locateCopies-within}
+use Rattle.block.specs.Block.{checksum, copyBytes, trailer, blockClasses, blockPulses, wrongSize, measureBlock, writeBlock, blockLength}
+use Rattle.block.specs.Reading.{isCounted, isMiscounted, Place, noValue, placeValue, placeOf, placeAt, isLost, valueAt, valuesAt, blockAt, readCopies, readAt, readFrom, readBlock}
 use Rattle.block.specs.Damage.{OneSound, DamagedClasses, Damaged}
-use Rattle.block.proofs.BlockLaws.{copy-countdown, copy-value, below-copy, length-blockPulses, leader-right, measure-accepted, leader-at, one-at, two-at, after-at}
-use Rattle.start.proofs.StartLaws.{start-short}
-use Rattle.block.proofs.ReadingLaws.{place-one, place-two, read-room}
+use Rattle.block.proofs.BlockLaws.{copy-countdown, copy-value, below-copy, length-blockPulses, wrongLeader-within, measureBlock-accepted, leader-at, one-at, two-at, after-at}
+use Rattle.block.proofs.ReadingLaws.{placeOf-one, placeOf-two, readBlock-room}
 
 -- ---- A byte place of which one copy is sound
 
 -- the place has this value
-abbrev Right : (a : ℕ) → Place → Type 0
-Right a p = (noValue p ≡ false) × (placeValue p ≡ a)
+abbrev HasValue : (a : ℕ) → Place → Type 0
+HasValue a p = (noValue p ≡ false) × (placeValue p ≡ a)
 
-right-one : (a : ℕ) (one two : ByteRead) → one ≡ Good a → Right a (placeOf one two)
-right-one a one two e = rw (place-one a one two e) (refl, refl)
+hasValue-one : (a : ℕ) (one two : ByteRead) → one ≡ Good a → HasValue a (placeOf one two)
+hasValue-one a one two e = rw (placeOf-one a one two e) (refl, refl)
 
-right-two : (a : ℕ) (one two : ByteRead) → (isBad one ≡ true) ⊎ (one ≡ Good a) → two ≡ Good a → Right a (placeOf one two)
-right-two a one two (inl h) e = rw (place-two a one two h e) (refl, refl)
-right-two a one two (inr h) e = right-one a one two h
+hasValue-two : (a : ℕ) (one two : ByteRead) → (isBad one ≡ true) ⊎ (one ≡ Good a) → two ≡ Good a → HasValue a (placeOf one two)
+hasValue-two a one two (inl h) e = rw (placeOf-two a one two h e) (refl, refl)
+hasValue-two a one two (inr h) e = hasValue-one a one two h
 
 module _ (cs : List Class) (one two a : ℕ) (small : a < 256) where
   -- in the countdown, with the value of each copy
@@ -62,19 +63,19 @@ module _ (cs : List Class) (one two a : ℕ) (small : a < 256) where
 
   -- after it, with one value
   sound-place : one + 20 ≤ length cs → OneSound (byteClasses a) (twenty cs one) (byteClasses a) (twenty cs two)
-      → Right a (placeOf (byteAt cs one) (byteAt cs two))
-  sound-place within (inl s) = right-one a (byteAt cs one) (byteAt cs two) (byteAt-written cs one a small (s .0))
+      → HasValue a (placeOf (byteAt cs one) (byteAt cs two))
+  sound-place within (inl s) = hasValue-one a (byteAt cs one) (byteAt cs two) (byteAt-written cs one a small (s .0))
   sound-place within (inr s) =
-      right-two a (byteAt cs one) (byteAt cs two) (byteAt-differ cs one a small within (s .1)) (byteAt-written cs two a small (s .0))
+      hasValue-two a (byteAt cs one) (byteAt cs two) (byteAt-differ cs one a small within (s .1)) (byteAt-written cs two a small (s .0))
 
 -- ---- On classes
 
 -- The strip cs holds, from place o on, what lies within the damage of a block with leader k and n payload bytes.
 module _ (cs : List Class) (o k : ℕ) (payload : List ℕ) {n : ℕ} (long : length payload ≡ n) (below : Below 256 payload)
-    (fits : o + (k + 40 * (n + 10) + 122) ≤ length cs)
-    (d : DamagedClasses k n (blockClasses k payload) (part cs o (k + 40 * (n + 10) + 122))) where
+    (fits : o + (blockLength k n) ≤ length cs)
+    (d : DamagedClasses k n (blockClasses k payload) (part cs o (blockLength k n))) where
   abbrev size : ℕ
-  size = k + 40 * (n + 10) + 122
+  size = blockLength k n
 
   abbrev one : ℕ
   one = o + k
@@ -105,13 +106,13 @@ module _ (cs : List Class) (o k : ℕ) (payload : List ℕ) {n : ℕ} (long : le
       ap (λ j. getD cs j Noise) (sym e) ∙ sym (getD-part cs o size (i - o) Noise (omega arith)) ∙ sym (getD-take k (part cs o size) (i - o) Noise h)
       ∙ ap (λ (l : List Class). getD l (i - o) Noise) (d .outside .leader ∙ leader-at k payload) ∙ getD-replicate k (i - o) Short Noise h
 
-  counted-ok : (i : ℕ) → i < 9 → counted cs one two i ≡ true
-  unfolding counted
+  counted-ok : (i : ℕ) → i < 9 → isCounted cs one two i ≡ true
+  unfolding isCounted
   counted-ok i h =
       rw (← (copy-countdown 0 payload i h), ← (copy-countdown 1 payload i h))
       (sound-counted cs (one + 20 * i) (two + 20 * i) _ (below-copy 0 payload below i) _ (below-copy 1 payload below i) (sound i (omega arith)))
 
-  place-ok : (i : ℕ) → i < n + 1 → Right (getD (payload ++ (checksum payload ∷ [])) i 0) (placeAt cs one two i)
+  place-ok : (i : ℕ) → i < n + 1 → HasValue (getD (payload ++ (checksum payload ∷ [])) i 0) (placeAt cs one two i)
   unfolding placeAt
   place-ok i h =
       let s = sound (9 + i) (omega arith) in
@@ -125,11 +126,11 @@ module _ (cs : List Class) (o k : ℕ) (payload : List ℕ) {n : ℕ} (long : le
       ∙ tabulate-is (valueAt cs one two) payload 0 (λ i h. rw (zero-add, place-ok i (omega arith) .1) (List·getD-append payload (checksum payload ∷ []) 0 i h))
 
   -- rules 2 to 5, at the end of the leader
-  pub read-there : readAt cs one n ≡ accepted (blockAt one n payload)
+  pub readAt-there : readAt cs one n ≡ accepted (blockAt one n payload)
   unfolding readAt readCopies
-  read-there =
+  readAt-there =
       rw (
-        le-ltb (length cs) (endOf one n) (omega arith),
+        locateCopies-within (length cs) one n (omega arith),
         first-none (isMiscounted cs one two) 9 0 (λ i _ h. rw (counted-ok i (omega arith))),
         first-none (isLost cs one two) (n + 1) 0 (λ i _ h. place-ok i (omega arith) .0),
         values-ok,
@@ -140,15 +141,15 @@ module _ (cs : List Class) (o k : ℕ) (payload : List ℕ) {n : ℕ} (long : le
 
   -- all five rules, where after `from` only short pulses stand before the block
   module _ (from : ℕ) (lead : 16 ≤ k) (far : from + 16 ≤ one) (before : (i : ℕ) → from < i → i < o → getD cs i Noise ≡ Short) where
-    pub start-found : startOf cs from ≡ some one
-    start-found = start-short cs from one far (λ i a b. leader-short i (omega arith) b) short first-good
+    start-found : startOf cs from ≡ some one
+    start-found = startOf-short cs from one far (λ i a b. leader-short i (omega arith) b) short first-good
       where
         short : (i : ℕ) → from < i → i < one → getD cs i Noise ≡ Short
         short i a b = elim (decLt i o) [ yes h ↦ before i a h | no h ↦ leader-short i (omega arith) b ]
 
-    pub survives : readFrom cs from n ≡ accepted (blockAt one n payload)
-    unfolding readFrom readFound
-    survives = rw start-found read-there
+    pub readFrom-there : readFrom cs from n ≡ accepted (blockAt one n payload)
+    unfolding readFrom findStart
+    readFrom-there = rw start-found readAt-there
 
 -- ---- On pulses
 
@@ -156,24 +157,24 @@ module _ (cs : List Class) (o k : ℕ) (payload : List ℕ) {n : ℕ} (long : le
 -- damage of a written block.
 module _ (t : Thresholds) (strip : List ℕ) (o k : ℕ) (payload : List ℕ) {n : ℕ} (long : length payload ≡ n)
     (d : Damaged t k payload (part strip o (length (blockPulses k payload)))) where
-  size-block : length (blockPulses k payload) ≡ k + 40 * (n + 10) + 122
+  size-block : length (blockPulses k payload) ≡ blockLength k n
   size-block = rw (← long) (length-blockPulses k payload)
 
-  fits : o + (k + 40 * (n + 10) + 122) ≤ length strip
+  fits : o + (blockLength k n) ≤ length strip
   fits = let l = simp (length-take, length-drop) at (d .long) in omega (arith, size-block, length-map (blockClasses k payload) writtenAs)
 
-  kept : DamagedClasses k n (blockClasses k payload) (part (classes t strip) o (k + 40 * (n + 10) + 122))
-  kept = rw (part-map (classOf t) strip o (k + 40 * (n + 10) + 122), ← size-block) (rw long at (d .kept))
+  kept : DamagedClasses k n (blockClasses k payload) (part (classes t strip) o (blockLength k n))
+  kept = rw (part-map (classOf t) strip o (blockLength k n), ← size-block) (rw long at (d .kept))
 
   -- between the pulse after the block's end and the end of its trailer only short pulses stand
-  pub after-short : (i : ℕ) → endOf (o + k) n < i → i < o + (k + 40 * (n + 10) + 122) → classOf t (getD strip i 0) ≡ Short
+  pub after-short : (i : ℕ) → endOf (o + k) n < i → i < o + (blockLength k n) → classOf t (getD strip i 0) ≡ Short
   unfolding trailer
   after-short i a b =
       let cs = classes t strip in
       let j = i - (o + endOf k n) - 1 in
       let e : o + endOf k n + suc j ≡ i = omega arith in
       let w : part (blockClasses k payload) (endOf k n) 61 ≡ trailer = rw (← long) (after-at k payload) in
-      let kept-after : part cs (o + endOf k n) 61 ≡ trailer = sym (part-part cs o (k + 40 * (n + 10) + 122) (endOf k n) 61 (omega arith)) ∙ kept .outside .after ∙ w in
+      let kept-after : part cs (o + endOf k n) 61 ≡ trailer = sym (part-part cs o (blockLength k n) (endOf k n) 61 (omega arith)) ∙ kept .outside .after ∙ w in
       sym (class-at t strip i (omega (arith, fits)))
       ∙ ap (λ p. getD cs p Noise) (sym e) ∙ sym (getD-part cs (o + endOf k n) 61 (suc j) Noise (omega arith))
       ∙ ap (λ (l : List Class). getD l (suc j) Noise) kept-after ∙ getD-replicate 60 j Short Noise (omega arith)
@@ -182,14 +183,14 @@ module _ (t : Thresholds) (strip : List ℕ) (o k : ℕ) (payload : List ℕ) {n
   module _ (below : Below 256 payload) (from : ℕ) (lead : 16 ≤ k) (far : from + 16 ≤ o + k)
       (before : (i : ℕ) → from < i → i < o → classOf t (getD strip i 0) ≡ Short) where
     -- the rules accept it, with p, end and payload
-    pub read-damaged : readFrom (classes t strip) from n ≡ accepted (blockAt (o + k) n payload)
-    read-damaged =
-        survives (classes t strip) o k payload long below (rw (length-map strip (classOf t)) fits) kept from lead far
+    pub readFrom-damaged : readFrom (classes t strip) from n ≡ accepted (blockAt (o + k) n payload)
+    readFrom-damaged =
+        readFrom-there (classes t strip) o k payload long below (rw (length-map strip (classOf t)) fits) kept from lead far
         (λ i a b. class-at t strip i (omega (arith, fits)) ∙ before i a b)
 
     -- and so does the reader, for a payload of a right size and enough room
     pub readBlock-damaged : (room : ℕ) → wrongSize n ≡ false → n ≤ room → readBlock (classes t strip) room from n ≡ accepted (blockAt (o + k) n payload)
-    readBlock-damaged room size enough = read-room (classes t strip) room from n size enough ∙ read-damaged
+    readBlock-damaged room size enough = readBlock-room (classes t strip) room from n size enough ∙ readFrom-damaged
 
 -- ---- The block as written
 
@@ -213,11 +214,11 @@ written : (room k : ℕ) (payload strip : List ℕ) → writeBlock room k payloa
     → (wrongSize (length payload) ≡ false) × (64 ≤ k) × (length (blockPulses k payload) ≤ room) × (blockPulses k payload ≡ strip)
 unfolding writeBlock
 written room k payload strip e =
-    let a = then-accepted (measureBlock k (length payload)) _ strip e in
-    let m = measure-accepted k (length payload) (a .0) (a .1) in
-    let b = accepted-next (ltb room (a .0)) (refusalAt NoRoom 0) _ strip (a .2) in
-    let fits : a .0 ≤ room = ltb-false room (a .0) (b .0) in
-    (m .size, leader-right k (m .leader) .low, rw (length-blockPulses k payload ∙ m .count) fits, cc)
+    let a = andThen-accepted (measureBlock k (length payload)) _ strip e in
+    let m = measureBlock-accepted k (length payload) (a .0) (a .1) in
+    let b = ifRoom-accepted room (a .0) _ strip (a .2) in
+    let fits = b .0 in
+    (m .size, wrongLeader-within k (m .leader) .low, rw (length-blockPulses k payload ∙ m .count) fits, cc)
 
 -- what the writer put is read, from place 0 on
 pub readBlock-written : (room k : ℕ) (payload strip out : List ℕ) → writeBlock room k payload ≡ accepted strip → Below 256 payload → length out ≡ room

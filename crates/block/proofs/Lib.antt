@@ -1,4 +1,5 @@
 mod Countdowns
+mod FlagLaws
 mod Writing
 mod Checking
 mod Answers

@@ -1,50 +1,62 @@
 -- Laws of reading: rule 4 in words, enough room, and how long an accepted payload is.
-use Prim.Native.Nat.{ℕ, _+_, _*_, _≤_}
+use Prim.Native.Nat.{ℕ, _+_, _≤_}
 use native.Mathlib.Omega.{arith}
 use mathlib.Core.Path.{_≡_, refl}
 use mathlib.Core.Bool.{true, false}
 use mathlib.Core.List.{List}
-use mathlib.Core.Option.{Option, none, some}
-use borrow.Author.Tests.{le-ltb}
-use lib.Dec.{ltb}
 use lib.ListN.{length}
 use Rattle.lists.specs.Places.{firstFrom}
 use Rattle.lists.proofs.BoolLaws.{cond-first}
 use Rattle.lists.proofs.PlaceLaws.{length-tabulate}
-use Rattle.refusal.specs.declared.Reason.the-variants.{CutShort, WrongCountdown, LostByte}
-use Rattle.refusal.specs.Refusal.{accepted, refusalAt}
-use Rattle.refusal.proofs.OutcomeLaws.{accepted-next, first-accepted}
+use Rattle.refusal.specs.declared.Reason.the-variants.{WrongCountdown, LostByte}
+use Rattle.refusal.specs.Outcome.{accepted}
+use Rattle.refusal.proofs.OutcomeLaws.{refuseFirst-accepted, ifRoom-room, andThen-accepted}
 use Rattle.pulse.specs.declared.Class.{Class}
 use Rattle.byte.specs.declared.ByteRead.{ByteRead}
 use Rattle.byte.specs.declared.ByteRead.the-variants.{Good, Bad}
-use Rattle.byte.specs.Byte.{byteAt, isBad}
-use Rattle.start.specs.Start.{startOf}
+use Rattle.byte.specs.Byte.{isBad, byteAt}
+use Rattle.start.specs.Copies.{bytePlace, copyTwo, locateCopies}
+use Rattle.start.specs.Start.{findStart}
 use Rattle.block.specs.Block.{wrongSize}
-use Rattle.block.specs.Reading.{copyTwo, endOf, isMiscounted, FromOne, FromTwo, Lost, placeOf, isLost, valueAt, valuesAt, sumHolds, BlockRead, readCopies, readAt, readFound, readFrom, readBlock}
+use Rattle.block.specs.Reading.{isMiscounted, FromOne, FromTwo, Lost, placeOf, isLost, valueAt, valuesAt, sumHolds, BlockRead, readCopies, readAt, readFrom, readBlock, placeAt}
 
 -- ---- Rule 4
 
 -- copy one's value where that byte is good, whatever copy two holds
-pub place-one : (v : ℕ) (one two : ByteRead) → one ≡ Good v → placeOf one two ≡ FromOne v
-place-one v one two e = rw e
+pub placeOf-one : (v : ℕ) (one two : ByteRead) → one ≡ Good v → placeOf one two ≡ FromOne v
+placeOf-one v one two e = rw e
 
 -- else copy two's, where that byte is good
-pub place-two : (v : ℕ) (one two : ByteRead) → isBad one ≡ true → two ≡ Good v → placeOf one two ≡ FromTwo v
-place-two v (Good w) two h e = absurd (let z : _≡_ {A = ℕ} 0 1 = cc in omega arith)
-place-two v Bad two h e = rw e
+pub placeOf-two : (v : ℕ) (one two : ByteRead) → isBad one ≡ true → two ≡ Good v → placeOf one two ≡ FromTwo v
+placeOf-two v (Good w) two h e = absurd (let z : _≡_ {A = ℕ} 0 1 = cc in omega arith)
+placeOf-two v Bad two h e = rw e
 
 -- else it is lost
-pub place-lost : (one two : ByteRead) → isBad one ≡ true → isBad two ≡ true → placeOf one two ≡ Lost
-place-lost (Good w) two h k = absurd (let z : _≡_ {A = ℕ} 0 1 = cc in omega arith)
-place-lost Bad (Good w) h k = absurd (let z : _≡_ {A = ℕ} 0 1 = cc in omega arith)
-place-lost Bad Bad h k = refl
+pub placeOf-lost : (one two : ByteRead) → isBad one ≡ true → isBad two ≡ true → placeOf one two ≡ Lost
+placeOf-lost (Good w) two h k = absurd (let z : _≡_ {A = ℕ} 0 1 = cc in omega arith)
+placeOf-lost Bad (Good w) h k = absurd (let z : _≡_ {A = ℕ} 0 1 = cc in omega arith)
+placeOf-lost Bad Bad h k = refl
+
+-- the same of payload place i of a strip, and of place n for the checksum
+module _ (cs : List Class) (one two i : ℕ) where
+  pub placeAt-one : (v : ℕ) → byteAt cs (bytePlace one (9 + i)) ≡ Good v → placeAt cs one two i ≡ FromOne v
+  unfolding placeAt
+  placeAt-one v e = placeOf-one v (byteAt cs (bytePlace one (9 + i))) (byteAt cs (bytePlace two (9 + i))) e
+
+  pub placeAt-two : (v : ℕ) → isBad (byteAt cs (bytePlace one (9 + i))) ≡ true → byteAt cs (bytePlace two (9 + i)) ≡ Good v → placeAt cs one two i ≡ FromTwo v
+  unfolding placeAt
+  placeAt-two v h e = placeOf-two v (byteAt cs (bytePlace one (9 + i))) (byteAt cs (bytePlace two (9 + i))) h e
+
+  pub placeAt-lost : isBad (byteAt cs (bytePlace one (9 + i))) ≡ true → isBad (byteAt cs (bytePlace two (9 + i))) ≡ true → placeAt cs one two i ≡ Lost
+  unfolding placeAt
+  placeAt-lost h k = placeOf-lost (byteAt cs (bytePlace one (9 + i))) (byteAt cs (bytePlace two (9 + i))) h k
 
 -- ---- Enough room
 
 -- for a right n and enough room the reader does what the rules say
-pub read-room : (cs : List Class) (room from n : ℕ) → wrongSize n ≡ false → n ≤ room → readBlock cs room from n ≡ readFrom cs from n
+pub readBlock-room : (cs : List Class) (room from n : ℕ) → wrongSize n ≡ false → n ≤ room → readBlock cs room from n ≡ readFrom cs from n
 unfolding readBlock
-read-room cs room from n size enough = rw (size, le-ltb room n enough)
+readBlock-room cs room from n size enough = rw (size, ifRoom-room room n _ enough)
 
 -- ---- An accepted payload has n bytes
 
@@ -52,22 +64,17 @@ module _ (cs : List Class) (n : ℕ) (b : BlockRead) where
   length-values : (p : ℕ) → length (valuesAt cs p (copyTwo p n) n) ≡ n
   length-values p = length-tabulate (valueAt cs p (copyTwo p n)) n 0
 
-  length-readAt : (p : ℕ) → readAt cs p n ≡ accepted b → length (b .payload) ≡ n
+  readAt-length : (p : ℕ) → readAt cs p n ≡ accepted b → length (b .payload) ≡ n
   unfolding readAt readCopies
-  length-readAt p e =
+  readAt-length p e =
       let q = copyTwo p n in
-      let long = accepted-next (ltb (length cs) (endOf p n)) (refusalAt CutShort p) _ b e .1 in
-      let counted = first-accepted WrongCountdown (firstFrom (isMiscounted cs p q) 9 0) _ b long in
-      let found = first-accepted LostByte (firstFrom (isLost cs p q) (n + 1) 0) _ b counted in
+      let within = andThen-accepted (locateCopies (length cs) p n) (λ copies. readCopies cs p n) b e in
+      let counted = refuseFirst-accepted WrongCountdown (firstFrom (isMiscounted cs p q) 9 0) _ b (within .2) .1 in
+      let found = refuseFirst-accepted LostByte (firstFrom (isLost cs p q) (n + 1) 0) _ b counted .1 in
       let whole = cond-first (sumHolds cs p q n) _ _ (accepted b) (λ w. let z : _≡_ {A = ℕ} 0 1 = cc in omega arith) found .1 in
       let same : valuesAt cs p q n ≡ b .payload = cc in
       rw (← same) (length-values p)
 
-  length-found : (start : Option ℕ) → readFound cs start n ≡ accepted b → length (b .payload) ≡ n
-  unfolding readFound
-  length-found none e = absurd (let z : _≡_ {A = ℕ} 0 1 = cc in omega arith)
-  length-found (some p) e = length-readAt p e
-
-  pub length-payload : (from : ℕ) → readFrom cs from n ≡ accepted b → length (b .payload) ≡ n
+  pub readFrom-length : (from : ℕ) → readFrom cs from n ≡ accepted b → length (b .payload) ≡ n
   unfolding readFrom
-  length-payload from e = length-found (startOf cs from) e
+  readFrom-length from e = let s = andThen-accepted (findStart cs from) (λ p. readAt cs p n) b e in readAt-length (s .0) (s .2)

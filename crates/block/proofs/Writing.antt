@@ -6,27 +6,30 @@ use native.Mathlib.Omega.{arith}
 use mathlib.Core.Path.{_≡_, refl, sym, ap, _∙_}
 use mathlib.Core.Bool.{true, false}
 use mathlib.Core.List.{List, [], _∷_, _++_, append-nil}
-use borrow.Author.Tests.{lt-ltb, le-ltb}
 use lib.Bits.{bitXor}
-use lib.ListN.{length, drop, getD, set, replicate, length-replicate, drop-of-length-le}
+use lib.ListN.{length, take, drop, getD, set, replicate, length-replicate, length-take, length-drop, drop-of-length-le}
 use lib.Seq.{sets, drop-cons}
-use Rattle.lists.specs.Buffer.{putAt}
-use Rattle.lists.proofs.BufferLaws.{put-room}
+use Rattle.lists.specs.Places.{part}
+use Rattle.lists.proofs.BufferLaws.{put-room, sets-lent}
 use Rattle.lists.proofs.LoopLaws.{Putting, put-begun, put-next, put-one, put-done}
 use Rattle.refusal.specs.declared.Reason.the-variants.{WrongSize, NoRoom, WrongLeader}
 use Rattle.refusal.specs.declared.Refusal.{Refusal}
 use Rattle.refusal.specs.declared.Put.{Put}
 use Rattle.refusal.specs.declared.Put.the-variants.{Count, Refused}
-use Rattle.refusal.specs.Refusal.{Outcome, accepted, refusalAt, told, putAnswer, Written}
-use Rattle.refusal.proofs.OutcomeLaws.{written-refused, written-accepted}
+use Rattle.refusal.specs.Refusal.{refusalAt}
+use Rattle.refusal.specs.Outcome.{Outcome, accepted, refusedWith}
+use Rattle.refusal.specs.Promise.{Fills, itself, putAnswer, Written}
+use Rattle.refusal.proofs.PromiseLaws.{written-refused, written-accepted}
+use Rattle.refusal.proofs.OutcomeLaws.{ifRoom-noRoom, ifRoom-room}
 use Rattle.pulse.specs.declared.Class.the-variants.{Short}
 use Rattle.pulse.specs.Pulse.{pulses}
 use Rattle.pulse.proofs.PulseLaws.{put-pulses}
-use Rattle.byte.specs.Byte.{bytesClasses, bytesPulses}
+use Rattle.byte.specs.Byte.{bytesClasses, bytesPulses, writeBytes}
 use Rattle.byte.proofs.CodingLaws.{length-bytes, length-bytesPulses}
-use Rattle.block.specs.Block.{xorFrom, checksum, countdown, copyBytes, copyClasses, copyPulses, trailer, blockClasses, blockPulses, wrongSize, wrongLeader, measureBlock, writeBlock}
-use Rattle.block.specs.Reading.{copyTwo, endOf}
-use Rattle.block.proofs.BlockLaws.{bytes-append, length-countdown, length-copy, length-blockPulses, measure-accepted}
+use Rattle.byte.proofs.Stores.{writeBytes-stored}
+use Rattle.start.specs.Copies.{copyPulses, copyTwo, endOf}
+use Rattle.block.specs.Block.{xorFrom, checksum, countdown, copyBytes, copyClasses, trailer, blockClasses, blockPulses, wrongSize, wrongLeader, measureBlock, writeBlock, blockLength}
+use Rattle.block.proofs.BlockLaws.{bytes-append, length-countdown, length-copy, length-blockPulses, measureBlock-accepted}
 
 -- ---- The checksum
 
@@ -62,32 +65,31 @@ trailer-put out at long e = rw (e, add-one)
 
 -- ---- A copy: countdown, payload, checksum
 
--- bytes put where there is room
-put-stored : (out : List ℕ) {out′ : List ℕ} (at : ℕ) (bytes : List ℕ) → at + 20 * length bytes ≤ length out → out′ ≡ putAt out at (bytesPulses bytes)
-    → out′ ≡ sets out at (bytesPulses bytes)
-put-stored out at bytes h e = e ∙ sym (put-room out at (bytesPulses bytes) (rw (length-bytesPulses bytes) h))
+-- bytes written into the part of the output from a place on
+pub put-stored : (out : List ℕ) (at : ℕ) (bytes : List ℕ) {lent : List ℕ} → at + 20 * length bytes ≤ length out
+    → Fills itself (writeBytes (length (part out at (length out - at))) bytes) (part out at (length out - at)) lent
+    → take at out ++ (lent ++ drop (length out - at) (drop at out)) ≡ sets out at (bytesPulses bytes)
+put-stored out at bytes h f =
+    let long = length-bytesPulses bytes in
+    let room : 20 * length bytes ≤ length (part out at (length out - at)) = simp (length-take, length-drop) (omega arith) in
+    sets-lent out (bytesPulses bytes) at (rw long h) (writeBytes-stored (part out at (length out - at)) bytes room f)
 
 pub copy-put : (out : List ℕ) (at copy : ℕ) (payload : List ℕ) {row one two three : List ℕ} {sum : ℕ}
-    → at + copyPulses (length payload) ≤ length out → row ≡ countdown copy → sum ≡ checksum payload
-    → one ≡ putAt out at (bytesPulses row) → two ≡ putAt one (at + 180) (bytesPulses payload)
-    → three ≡ putAt two (at + 180 + 20 * length payload) (bytesPulses (sum ∷ []))
+    → row ≡ countdown copy → sum ≡ checksum payload
+    → one ≡ sets out at (bytesPulses row) → two ≡ sets one (at + 180) (bytesPulses payload)
+    → three ≡ sets two (at + 180 + 20 * length payload) (bytesPulses (sum ∷ []))
     → three ≡ sets out at (pulses (copyClasses copy payload))
 unfolding copyClasses copyBytes
-copy-put out at copy payload {row} {one} {two} {three} {sum} room r s e f g =
-    let n = length payload in
+copy-put out at copy payload {row} {one} {two} {three} {sum} r s e f g =
     let nine = length-countdown copy in
     let xs = bytesClasses (countdown copy) in
     let ys = bytesClasses payload in
     let zs = bytesClasses (checksum payload ∷ []) in
     let w : copyClasses copy payload ≡ xs ++ (ys ++ zs) = rw (bytes-append, bytes-append) in
     let u₀ = put-begun out at at (pulses (copyClasses copy payload)) (pulses (xs ++ (ys ++ zs))) refl (ap pulses (sym w)) in
-    let e′ = put-stored out at (countdown copy) (omega arith) (rw r at e) in
-    let u₁ = put-pulses xs (ys ++ zs) u₀ e′ (length-bytes (countdown copy) ∙ ap (λ k. 20 * k) nine) refl in
-    let long₁ = u₁ .long in
-    let u₂ = put-pulses ys zs u₁ (put-stored one (at + 180) payload (omega arith) f) (length-bytes payload) refl in
-    let long₂ = u₂ .long in
-    let g′ = put-stored two (at + 180 + 20 * n) (checksum payload ∷ []) (omega arith) (rw s at g) in
-    let u₃ = put-next u₂ (pulses zs) [] (sym (append-nil (pulses zs))) g′ refl in
+    let u₁ = put-pulses xs (ys ++ zs) u₀ (rw r at e) (length-bytes (countdown copy) ∙ ap (λ k. 20 * k) nine) refl in
+    let u₂ = put-pulses ys zs u₁ f (length-bytes payload) refl in
+    let u₃ = put-next u₂ (pulses zs) [] (sym (append-nil (pulses zs))) (rw s at g) refl in
     put-done u₃ refl
 
 -- ---- The block
@@ -113,17 +115,17 @@ block-put out k payload e f f′ g g′ =
 -- ---- The number of pulses, known before
 
 module _ (k n : ℕ) where
-  pub size-refused : {r : Refusal} → wrongSize n ≡ true → r ≡ refusalAt WrongSize 0 → told r ≡ measureBlock k n
+  pub measureBlock-wrongSize : {r : Refusal} → wrongSize n ≡ true → r ≡ refusalAt WrongSize 0 → refusedWith r ≡ measureBlock k n
   unfolding measureBlock
-  size-refused t q = rw (t, q)
+  measureBlock-wrongSize t q = rw (t, q)
 
-  pub leader-refused : {r : Refusal} → wrongSize n ≡ false → wrongLeader k ≡ true → r ≡ refusalAt WrongLeader 0 → told r ≡ measureBlock k n
+  pub measureBlock-wrongLeader : {r : Refusal} → wrongSize n ≡ false → wrongLeader k ≡ true → r ≡ refusalAt WrongLeader 0 → refusedWith r ≡ measureBlock k n
   unfolding measureBlock
-  leader-refused s t q = rw (s, t, q)
+  measureBlock-wrongLeader s t q = rw (s, t, q)
 
-  pub measured : {count : ℕ} → wrongSize n ≡ false → wrongLeader k ≡ false → count ≡ k + 40 * (n + 10) + 122 → accepted count ≡ measureBlock k n
+  pub measureBlock-count : {count : ℕ} → wrongSize n ≡ false → wrongLeader k ≡ false → count ≡ blockLength k n → accepted count ≡ measureBlock k n
   unfolding measureBlock
-  measured s t q = rw (s, t, q)
+  measureBlock-count s t q = rw (s, t, q)
 
 -- ---- What the writer comes to
 
@@ -133,17 +135,17 @@ module _ (out : List ℕ) (k : ℕ) (payload : List ℕ) where
 
   module _ {p : Put} (e : putAnswer p ≡ measureBlock k (length payload)) where
     -- refused as it was measured
-    pub unmeasured : (r : Refusal) → p ≡ Refused r → Written outcome out (Refused r) out
+    pub writeBlock-unmeasured : (r : Refusal) → p ≡ Refused r → Written outcome out (Refused r) out
     unfolding writeBlock
-    unmeasured r q = written-refused outcome out {r = r} {s = r} (rw (← e, q)) refl
+    writeBlock-unmeasured r q = written-refused outcome out {r = r} {s = r} (rw (← e, q)) refl
 
     module _ {count : ℕ} (q : p ≡ Count count) where
-      pub no-room : {r : Refusal} → length out < count → r ≡ refusalAt NoRoom 0 → Written outcome out (Refused r) out
+      pub writeBlock-noRoom : {r : Refusal} → length out < count → r ≡ refusalAt NoRoom 0 → Written outcome out (Refused r) out
       unfolding writeBlock
-      no-room h = written-refused outcome out (rw (← e, q, lt-ltb (length out) count h))
+      writeBlock-noRoom h = written-refused outcome out (rw (← e, q, ifRoom-noRoom (length out) count _ h))
 
-      pub whole : {out′ : List ℕ} → count ≤ length out → out′ ≡ sets out 0 (blockPulses k payload) → Written outcome out (Count count) out′
+      pub writeBlock-whole : {out′ : List ℕ} → count ≤ length out → out′ ≡ sets out 0 (blockPulses k payload) → Written outcome out (Count count) out′
       unfolding writeBlock
-      whole h s =
-          let long : length (blockPulses k payload) ≡ count = length-blockPulses k payload ∙ measure-accepted k (length payload) count (sym e ∙ ap putAnswer q) .count in
-          written-accepted outcome out (rw (← e, q, le-ltb (length out) count h)) long (s ∙ put-room out 0 (blockPulses k payload) (rw (long, zero-add) h))
+      writeBlock-whole h s =
+          let long : length (blockPulses k payload) ≡ count = length-blockPulses k payload ∙ measureBlock-accepted k (length payload) count (sym e ∙ ap putAnswer q) .count in
+          written-accepted outcome out (rw (← e, q, ifRoom-room (length out) count _ h)) long (s ∙ put-room out 0 (blockPulses k payload) (rw (long, zero-add) h))

@@ -6,8 +6,8 @@ use lib.Bits.{bitXor}
 use lib.Dec.{eqb, ltb}
 use lib.ListN.{length, replicate}
 use Rattle.lists.specs.Places.{tabulate}
-use Rattle.refusal.specs.declared.Reason.the-variants.{WrongSize, NoRoom, WrongLeader}
-use Rattle.refusal.specs.Refusal.{Outcome, accepted, refuse, andThen}
+use Rattle.refusal.specs.declared.Reason.the-variants.{WrongSize, WrongLeader}
+use Rattle.refusal.specs.Outcome.{Outcome, accepted, refuse, ifRoom, andThen}
 use Rattle.pulse.specs.declared.Class.{Class}
 use Rattle.pulse.specs.declared.Class.the-variants.{Short, Long}
 use Rattle.pulse.specs.Pulse.{pulses}
@@ -40,10 +40,6 @@ copyBytes copy payload = countdown copy ++ (payload ++ (checksum payload ∷ [])
 unfoldable pub copyClasses : (copy : ℕ) (payload : List ℕ) → List Class
 copyClasses copy payload = bytesClasses (copyBytes copy payload)
 
--- a copy of n payload bytes has n + 10 byte places
-abbrev pub copyPulses : (n : ℕ) → ℕ
-copyPulses n = 20 * (n + 10)
-
 -- one L and 60 S
 unfoldable pub trailer : List Class
 trailer = Long ∷ replicate 60 Short
@@ -51,6 +47,10 @@ trailer = Long ∷ replicate 60 Short
 -- a leader of k short pulses; copy one; one L and 60 S; copy two; one L and 60 S
 unfoldable pub blockClasses : (k : ℕ) (payload : List ℕ) → List Class
 blockClasses k payload = replicate k Short ++ (copyClasses 0 payload ++ (trailer ++ (copyClasses 1 payload ++ trailer)))
+
+-- a block has K + 40(n + 10) + 122 pulses
+abbrev pub blockLength : (k n : ℕ) → ℕ
+blockLength k n = k + 40 * (n + 10) + 122
 
 abbrev pub blockPulses : (k : ℕ) (payload : List ℕ) → List ℕ
 blockPulses k payload = pulses (blockClasses k payload)
@@ -65,16 +65,15 @@ wrongSize n = eqb n 0 || ltb 8192 n
 abbrev pub wrongLeader : (k : ℕ) → Bool
 wrongLeader k = ltb k 64 || ltb 65535 k
 
--- how many pulses a block of n payload bytes has: refusals 1 and 14 in this order, else K + 40(n + 10) + 122
+-- how many pulses a block of n payload bytes has: refusals 1 and 14 in this order, else the number
 unfoldable pub measureBlock : (k n : ℕ) → Outcome ℕ
 measureBlock k n =
     cond (wrongSize n) (refuse WrongSize 0)
     (cond (wrongLeader k) (refuse WrongLeader 0)
-    (accepted (k + 40 * (n + 10) + 122)))
+    (accepted (blockLength k n)))
 
 -- what is written into `room` places: refusals 1 and 14, then 2, else the block
 unfoldable pub writeBlock : (room k : ℕ) (payload : List ℕ) → Outcome (List ℕ)
 writeBlock room k payload =
     andThen (measureBlock k (length payload)) (λ count.
-    cond (ltb room count) (refuse NoRoom 0)
-    (accepted (blockPulses k payload)))
+    ifRoom room count (accepted (blockPulses k payload)))

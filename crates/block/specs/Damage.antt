@@ -1,5 +1,5 @@
 -- The damage of a block (document 01, 'Damage').
-use Prim.Native.Nat.{ℕ, _+_, _*_, _^_, _≤_, _<_}
+use Prim.Native.Nat.{ℕ, _+_, _^_, _≤_, _<_}
 use mathlib.Core.Path.{_≡_}
 use mathlib.Core.Logic.{_⊎_}
 use mathlib.Core.List.{List}
@@ -10,18 +10,18 @@ use Rattle.pulse.specs.declared.Thresholds.{Thresholds}
 use Rattle.pulse.specs.Pulse.{classes}
 use Rattle.byte.specs.Byte.{twenty}
 use Rattle.byte.specs.Damage.{differ}
-use Rattle.block.specs.Block.{copyPulses, blockClasses}
-use Rattle.block.specs.Reading.{copyTwo, endOf}
+use Rattle.start.specs.Copies.{bytePlace, copyPulses, copyTwo, endOf}
+use Rattle.block.specs.Block.{blockClasses}
 
 -- A block is written with a leader of k pulses and n payload bytes; w are the classes it was written in, and cs those of a strip with as
 -- many pulses. Copy one is the 20(n + 10) pulses from place k on; copy two starts 61 pulses after it.
 
 -- byte place i of copy one, and of copy two
 abbrev pub oneAt : (k i : ℕ) (cs : List Class) → List Class
-oneAt k i cs = twenty cs (k + 20 * i)
+oneAt k i cs = twenty cs (bytePlace k i)
 
 abbrev pub twoAt : (k n i : ℕ) (cs : List Class) → List Class
-twoAt k n i cs = twenty cs (copyTwo k n + 20 * i)
+twoAt k n i cs = twenty cs (bytePlace (copyTwo k n) i)
 
 -- each pulse outside the copies has the class it was written in: in the leader, in the 61 pulses between the copies, in those after them
 pub record Outside (k n : ℕ) (w cs : List Class) : Type 0 where
@@ -40,8 +40,8 @@ pub record DamagedClasses (k n : ℕ) (w cs : List Class) : Type 0 where
   pub places : (i : ℕ) → i < n + 10 → OneSound (oneAt k i w) (oneAt k i cs) (twoAt k n i w) (twoAt k n i cs)
 
 -- The strip lies within the damage of the block that is written with leader k and this payload: as many pulses, each any 32-bit count,
--- and, classed with the thresholds t, each against the class that was written. This asks nothing of k and the payload; what the writer
--- accepts is said elsewhere.
+-- and its classes, by the thresholds t, are to those written as said above. This asks nothing of k and the payload; what the writer accepts is
+-- said elsewhere.
 pub record Damaged (t : Thresholds) (k : ℕ) (payload strip : List ℕ) : Type 0 where
   pub long : length strip ≡ length (blockClasses k payload)
   pub counts : Below (2 ^ 32) strip

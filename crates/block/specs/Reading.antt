@@ -1,44 +1,32 @@
--- Reading a block (document 01, 'Reading a block'), on the classes of a strip.
-use Prim.Native.Nat.{ℕ, _+_, _-_, _*_, _≤_}
-use mathlib.Core.Path.{_≡_}
-use mathlib.Core.Bool.{Bool, true, false, cond, not, _&&_, _||_}
-use mathlib.Core.List.{List, [], _∷_}
-use mathlib.Core.Option.{Option, none, some}
-use lib.Dec.{eqb, leb, ltb}
-use lib.ListN.{length, replicate}
-use Rattle.lists.specs.Places.{firstFrom, tabulate, part}
-use Rattle.refusal.specs.declared.Reason.the-variants.{WrongSize, NoRoom, NoStart, CutShort, WrongCountdown, LostByte, WrongChecksum}
-use Rattle.refusal.specs.Refusal.{Outcome, accepted, refuse, refuseFirst, told, mapped, Fills, Promise}
+-- Reading a block (document 01, 'Reading a block'), on the classes of a strip: rules 3 to 5. Rules 1 and 2 are those of `start`.
+use Prim.Native.Nat.{ℕ, _+_, _-_}
+use mathlib.Core.Bool.{Bool, true, false, cond, not, _||_}
+use mathlib.Core.List.{List}
+use lib.Dec.{eqb}
+use lib.ListN.{length}
+use Rattle.lists.specs.Places.{firstFrom, tabulate}
+use Rattle.refusal.specs.declared.Reason.the-variants.{WrongSize, WrongCountdown, LostByte, WrongChecksum}
+use Rattle.refusal.specs.Outcome.{Outcome, accepted, refuse, refuseFirst, ifRoom, refusedWith, andThen}
+use Rattle.refusal.specs.Promise.{Answers, Fills, itself}
 use Rattle.pulse.specs.declared.Class.{Class}
-use Rattle.pulse.specs.declared.Class.the-variants.{Short}
-use Rattle.pulse.specs.Pulse.{same}
 use Rattle.byte.specs.declared.ByteRead.{ByteRead}
 use Rattle.byte.specs.declared.ByteRead.the-variants.{Good, Bad}
 use Rattle.byte.specs.Byte.{byteAt, isGood}
-use Rattle.start.specs.Start.{startOf}
+use Rattle.start.specs.Start.{findStart}
+use Rattle.start.specs.Copies.{bytePlace, copyTwo, endOf, locateCopies}
 use Rattle.block.specs.declared.Extent.{Extent}
 use Rattle.block.specs.declared.BlockAnswer.{BlockAnswer}
 use Rattle.block.specs.declared.BlockAnswer.the-variants.{Accepted, Refused}
-use Rattle.block.specs.Block.{checksum, firstByte, copyPulses, wrongSize}
-
--- ---- Rule 2: the copies
-
--- copy one is 20(n + 10) pulses from p on; copy two starts 20(n + 10) + 61 pulses after p and is as long
-abbrev pub copyTwo : (p n : ℕ) → ℕ
-copyTwo p n = p + copyPulses n + 61
-
--- the place after copy two
-abbrev pub endOf : (p n : ℕ) → ℕ
-endOf p n = copyTwo p n + copyPulses n
+use Rattle.block.specs.Block.{checksum, firstByte, wrongSize}
 
 -- ---- Rule 3: the countdown
 
 -- at countdown place i, copy one (from `one` on) or copy two (from `two` on) holds a good byte with its own expected value
-unfoldable pub counted : (cs : List Class) (one two i : ℕ) → Bool
-counted cs one two i = isGood (firstByte 0 - i) (byteAt cs (one + 20 * i)) || isGood (firstByte 1 - i) (byteAt cs (two + 20 * i))
+unfoldable pub isCounted : (cs : List Class) (one two i : ℕ) → Bool
+isCounted cs one two i = isGood (firstByte 0 - i) (byteAt cs (bytePlace one i)) || isGood (firstByte 1 - i) (byteAt cs (bytePlace two i))
 
 abbrev pub isMiscounted : (cs : List Class) (one two i : ℕ) → Bool
-isMiscounted cs one two i = not (counted cs one two i)
+isMiscounted cs one two i = not (isCounted cs one two i)
 
 -- ---- Rule 4: the values
 
@@ -67,7 +55,7 @@ placeValue Lost = 0
 
 -- payload place i, and place n for the checksum
 unfoldable pub placeAt : (cs : List Class) (one two i : ℕ) → Place
-placeAt cs one two i = placeOf (byteAt cs (one + 20 * (9 + i))) (byteAt cs (two + 20 * (9 + i)))
+placeAt cs one two i = placeOf (byteAt cs (bytePlace one (9 + i))) (byteAt cs (bytePlace two (9 + i)))
 
 abbrev pub isLost : (cs : List Class) (one two i : ℕ) → Bool
 isLost cs one two i = noValue (placeAt cs one two i)
@@ -111,29 +99,23 @@ readCopies cs p n =
 
 -- rules 2 to 5, for the start p: refusal 4 comes first
 unfoldable pub readAt : (cs : List Class) (p n : ℕ) → Outcome BlockRead
-readAt cs p n = cond (ltb (length cs) (endOf p n)) (refuse CutShort p) (readCopies cs p n)
+readAt cs p n = andThen (locateCopies (length cs) p n) (λ copies. readCopies cs p n)
 
--- for a start that was looked for: refusal 3 where there is none
-unfoldable pub readFound : (cs : List Class) (start : Option ℕ) (n : ℕ) → Outcome BlockRead
-readFound cs none n = refuse NoStart 0
-readFound cs (some p) n = readAt cs p n
-
--- all five rules
+-- all five rules: refusal 3 where there is no start
 unfoldable pub readFrom : (cs : List Class) (from n : ℕ) → Outcome BlockRead
-readFrom cs from n = readFound cs (startOf cs from) n
+readFrom cs from n = andThen (findStart cs from) (λ p. readAt cs p n)
 
 -- the reader with `room` places for the payload: refusals 1 and 2 come first
 unfoldable pub readBlock : (cs : List Class) (room from n : ℕ) → Outcome BlockRead
 readBlock cs room from n =
     cond (wrongSize n) (refuse WrongSize 0)
-    (cond (ltb room n) (refuse NoRoom 0)
-    (readFrom cs from n))
+    (ifRoom room n (readFrom cs from n))
 
 -- what the reader answers
 abbrev pub blockAnswer : BlockAnswer → Outcome Extent
 blockAnswer (Accepted extent) = accepted extent
-blockAnswer (Refused r) = told r
+blockAnswer (Refused r) = refusedWith r
 
 -- what a reader promises: it answers r and leaves out′ in the buffer that held out, as the outcome says
-abbrev pub Reads : (o : Outcome BlockRead) (out : List ℕ) (r : BlockAnswer) (out′ : List ℕ) → Type 0
-Reads o out r out′ = Promise (mapped extentOf) (Fills payloadOf out out′) o (blockAnswer r)
+abbrev pub BlockPromise : (o : Outcome BlockRead) (out : List ℕ) (r : BlockAnswer) (out′ : List ℕ) → Type 0
+BlockPromise o out r out′ = Answers itself extentOf o (blockAnswer r) × Fills payloadOf o out out′

@@ -1,2 +1,3 @@
 -- What the crate's own functions come to. No promise to a caller cites these.
+pub mod Flags
 pub mod Checks

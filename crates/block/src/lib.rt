@@ -4,7 +4,9 @@
 //   K short pulses  $89 .. $81, payload, checksum  L and 60 S  $09 .. $01, payload, checksum  L and 60 S
 //
 // The checksum is $00 XORed with each payload byte. A copy has n + 10 byte places of twenty pulses each.
-mod read;
+mod flags;
+mod rules;
+mod values;
 mod write;
 
 use pulse::Thresholds;
@@ -14,10 +16,10 @@ use refusal::Refusal;
 use start::Found;
 ghost use mathlib.Core.Path.{_≡_};
 ghost use lib.ListN.{length};
-ghost use Rattle.refusal.specs.Refusal.{putAnswer, Written};
+ghost use Rattle.refusal.specs.Promise.{putAnswer, Written};
 ghost use Rattle.pulse.specs.Pulse.{fixed, classes};
 ghost use Rattle.block.specs.Block.{wrongSize, wrongLeader, measureBlock, writeBlock};
-ghost use Rattle.block.specs.Reading.{readBlock, Reads};
+ghost use Rattle.block.specs.Reading.{readBlock, BlockPromise};
 
 // The largest payload.
 pub const MOST_BYTES: usize = 8192;
@@ -26,24 +28,11 @@ pub const LEAST_LEADER: usize = 64;
 
 pub const MOST_LEADER: usize = 65535;
 
-const COUNTDOWN_BYTES: usize = 9;
-
-// That of copy one, and that of copy two.
-const COUNTDOWNS: [[u8; COUNTDOWN_BYTES]; 2] = [
+// The countdown of copy one, and that of copy two.
+const COUNTDOWNS: [[u8; start::COUNTDOWN_BYTES]; 2] = [
     [0x89, 0x88, 0x87, 0x86, 0x85, 0x84, 0x83, 0x82, 0x81],
     [0x09, 0x08, 0x07, 0x06, 0x05, 0x04, 0x03, 0x02, 0x01],
 ];
-
-// The bytes of a copy beside the payload: the countdown and the checksum.
-const EXTRA_BYTES: usize = COUNTDOWN_BYTES + 1;
-
-// The short pulses of a trailer, after its long one.
-const TRAILER_SHORTS: usize = 60;
-
-const TRAILER_PULSES: usize = 1 + TRAILER_SHORTS;
-
-// The reader's row of flags: one for each place of the largest payload and one for the checksum's, eight to a byte.
-const FLAG_BYTES: usize = MOST_BYTES / lists::BYTE_FLAGS + 1;
 
 // Where an accepted block stands: its payload bytes, its start, and the place after copy two.
 pub struct Extent {
@@ -69,7 +58,7 @@ pub fn measure_block(n: usize, leader: usize) -> Put
     if wrong_leader(leader) {
         return Put::Refused(refusal::at(Reason::WrongLeader, 0));
     }
-    Put::Count(leader + 2 * (byte::BYTE_PULSES * (n + EXTRA_BYTES) + TRAILER_PULSES))
+    Put::Count(leader + 2 * (byte::BYTE_PULSES * (n + start::EXTRA_BYTES) + start::TRAILER_PULSES))
 }
 
 // Writes a block with a leader of that many short pulses, and answers the number of pulses put. It refuses a payload or a leader of
@@ -92,19 +81,19 @@ pub fn write_block(payload: &[u8], leader: usize, out: &mut [u32]) -> Put
 // Reads the block of n payload bytes whose start is the first at or after `from`, and puts its payload. It refuses a wrong n, an output
 // that is too short, a strip with no start, and a block that is cut short or damaged beyond repair.
 pub fn read_block(strip: &[u32], from: usize, n: usize, out: &mut [u8]) -> BlockAnswer
-    ensures { λ r. ⌜ Reads (readBlock (classes fixed (now (strip .entry))) (length (now (out .entry))) from n) (now (out .entry)) r (now (out .exit)) ⌝ }
+    ensures { λ r. ⌜ BlockPromise (readBlock (classes fixed (now (strip .entry))) (length (now (out .entry))) from n) (now (out .entry)) r (now (out .exit)) ⌝ }
 {
     if wrong_size(n) {
-        return read::refused(Reason::WrongSize, 0);
+        return rules::refused(Reason::WrongSize, 0);
     }
     if out.len() < n {
-        return read::refused(Reason::NoRoom, 0);
+        return rules::refused(Reason::NoRoom, 0);
     }
-    let t = Thresholds::standard();
+    let t = Thresholds::fixed();
     let Found::At(start) = start::find_start(t, strip, from) else {
-        return read::refused(Reason::NoStart, 0);
+        return rules::refused(Reason::NoStart, 0);
     };
-    read::read_at(t, strip, start, n, out)
+    rules::read_at(t, strip, start, n, out)
 }
 
 fn wrong_size(n: usize) -> bool

@@ -1,20 +1,22 @@
 // The parts of a block, put one after the other.
-use super::COUNTDOWN_BYTES;
 use super::COUNTDOWNS;
-use super::EXTRA_BYTES;
-use super::TRAILER_PULSES;
-use super::TRAILER_SHORTS;
 use pulse::Class;
+use start::COUNTDOWN_BYTES;
+use start::EXTRA_BYTES;
+use start::TRAILER_PULSES;
+use start::TRAILER_SHORTS;
 ghost use Prim.Native.Nat.{_+_, _*_, _≤_, _<_};
 ghost use mathlib.Core.Path.{_≡_};
 ghost use lib.ListN.{length, replicate};
 ghost use lib.Seq.{sets};
-ghost use Rattle.pulse.specs.Pulse.{pulses};
 ghost use Rattle.pulse.specs.declared.Class.the-variants.{Short};
-ghost use Rattle.block.specs.Block.{checksum, copyClasses, copyPulses, trailer, blockPulses};
+ghost use Rattle.pulse.specs.Pulse.{pulses};
+ghost use Rattle.byte.specs.Byte.{bytesPulses};
+ghost use Rattle.start.specs.Copies.{copyPulses};
+ghost use Rattle.block.specs.Block.{checksum, copyClasses, trailer, blockLength, blockPulses};
 
 pub fn put_block(payload: &[u8], leader: usize, out: &mut [u32])
-    requires { ⌜ leader + 40 * (length (now payload) + 10) + 122 ≤ length (now out) ⌝ }
+    requires { ⌜ blockLength leader (length (now payload)) ≤ length (now out) ⌝ }
     ensures { λ _. ⌜ now (out .exit) ≡ sets (now (out .entry)) 0 (blockPulses leader (now (payload .entry))) ⌝ }
 {
     let copy = byte::BYTE_PULSES * (payload.len() + EXTRA_BYTES);
@@ -60,9 +62,16 @@ fn put_copy(out: &mut [u32], at: usize, copy: usize, payload: &[u8], sum: u8)
     let countdown = COUNTDOWNS[copy];
     let values = at + byte::BYTE_PULSES * COUNTDOWN_BYTES;
     let last = values + byte::BYTE_PULSES * payload.len();
-    byte::put_bytes(out, at, &countdown);
-    byte::put_bytes(out, values, payload);
-    byte::put_bytes(out, last, &[sum]);
+    put_bytes(&countdown, out, at);
+    put_bytes(payload, out, values);
+    put_bytes(&[sum], out, last);
+}
+
+fn put_bytes(values: &[u8], out: &mut [u32], at: usize)
+    requires { ⌜ at + 20 * length (now values) ≤ length (now out) ⌝ }
+    ensures { λ _. ⌜ now (out .exit) ≡ sets (now (out .entry)) at (bytesPulses (now (values .entry))) ⌝ }
+{
+    byte::write_bytes(values, &mut out[at..]);
 }
 
 fn put_trailer(out: &mut [u32], at: usize)

@@ -7,37 +7,36 @@ use native.Mathlib.Omega.{arith}
 use mathlib.Core.Path.{_≡_, refl, sym, ap, ap₂, _∙_}
 use mathlib.Core.Logic.{inl, inr}
 use mathlib.Core.Bool.{true, cond, _&&_}
-use mathlib.Core.List.{List, [], _∷_, _++_, append-assoc, map-append}
+use mathlib.Core.List.{List, [], _∷_, _++_}
 use mathlib.Core.Option.{Option, none, some}
-use borrow.Author.Tests.{le-leb, not-true, not-false, eqb-true, ne-eqb}
+use borrow.Author.Tests.{not-true, not-false, eqb-true, ne-eqb}
 use lib.Count.{ones}
 use lib.Dec.{lit<, lit≤}
-use lib.ListN.{length, take, drop, getD, length-map, length-take, length-drop}
-use lib.Seq.{drop-cons, take-take, take-at, drop-at, length-take-le, getD-take, getD-drop}
+use lib.ListN.{length, take, drop, getD, length-take, length-drop}
+use lib.Seq.{drop-cons, take-take, getD-take, getD-drop}
 use Rattle.lists.specs.Places.{firstFrom, tabulate}
-use Rattle.lists.specs.Buffer.{putAt}
 use Rattle.lists.proofs.BoolLaws.{and-true, or-true, cond-first}
 use Rattle.lists.proofs.PlaceLaws.{none-first, tabulate-snoc}
 use Rattle.lists.proofs.Table.{every-at}
 use Rattle.pulse.specs.declared.Class.{Class}
 use Rattle.pulse.specs.declared.Class.the-variants.{Short, Medium, Long, Noise}
-use Rattle.pulse.specs.Pulse.{fixed, classOf, classes, same}
-use Rattle.pulse.proofs.PulseLaws.{same-eq, classes-pulses}
+use Rattle.pulse.specs.Pulse.{same}
+use Rattle.pulse.proofs.PulseLaws.{same-eq}
 use Rattle.byte.specs.declared.ByteRead.{ByteRead}
 use Rattle.byte.specs.declared.ByteRead.the-variants.{Good, Bad}
-use Rattle.byte.specs.Byte.{isOdd, bits, parityBit, coded, byteClasses, bytePulses, pairOf, isSound, bitOf, pairAt, nthPair, nthBit, wrongPair, valueOf, checked, readByte, twenty, byteAt, isGood, isBad}
+use Rattle.byte.specs.Byte.{isOdd, bits, parityBit, coded, byteClasses, pairOf, isSound, bitOf, pairAt, nthPair, nthBit, wrongPair, valueOf, checked, byteOf, twenty, byteAt, isGood, isBad}
 use Rattle.byte.proofs.PairLaws.{bit-lt, pair-past}
-use Rattle.byte.proofs.CodingLaws.{coded-append, length-byte, length-bytePulses, value-lt}
+use Rattle.byte.proofs.CodingLaws.{coded-append, value-lt}
 
 -- ---- A byte as written is read
 
-pub good-is : (v : ℕ) (r : ByteRead) → isGood v r ≡ true → r ≡ Good v
-good-is v (Good w) e = ap Good (eqb-true w v e)
-good-is v Bad e = absurd (let z : _≡_ {A = ℕ} 0 1 = cc in omega arith)
+pub isGood-true : (v : ℕ) (r : ByteRead) → isGood v r ≡ true → r ≡ Good v
+isGood-true v (Good w) e = ap Good (eqb-true w v e)
+isGood-true v Bad e = absurd (let z : _≡_ {A = ℕ} 0 1 = cc in omega arith)
 
-pub read-written : (b : ℕ) → b < 256 → readByte (byteClasses b) ≡ Good b
-unfolding readByte firstFrom tabulate pairAt pairOf same valueOf byteClasses coded bits parityBit isOdd ones
-read-written b h = good-is b (readByte (byteClasses b)) (every-at (λ v. isGood v (readByte (byteClasses v))) 256 refl b h)
+pub byteOf-written : (b : ℕ) → b < 256 → byteOf (byteClasses b) ≡ Good b
+unfolding byteOf firstFrom tabulate pairAt pairOf same valueOf byteClasses coded bits parityBit isOdd ones
+byteOf-written b h = isGood-true b (byteOf (byteClasses b)) (every-at (λ v. isGood v (byteOf (byteClasses v))) 256 refl b h)
 
 -- ---- Sound pairs
 
@@ -88,12 +87,12 @@ checked-good none w d v e =
     (refl, cc, h .0)
 checked-good (some i) w d v e = absurd (let z : _≡_ {A = ℕ} 0 1 = cc in omega arith)
 
-module _ (ys : List Class) (v : ℕ) (e : readByte ys ≡ Good v) where
+module _ (ys : List Class) (v : ℕ) (e : byteOf ys ≡ Good v) where
   abbrev value : ℕ
   value = valueOf (tabulate (nthBit ys) 8 1)
 
   pub good-parts : (firstFrom (wrongPair ys) 10 0 ≡ none) × (value ≡ v) × (isOdd (ones value + nthBit ys 9) ≡ true)
-  unfolding readByte
+  unfolding byteOf
   good-parts = checked-good (firstFrom (wrongPair ys) 10 0) value (nthBit ys 9) v e
 
   pub good-sound : (i : ℕ) → i < 10 → isSound i (nthPair ys i) ≡ true
@@ -126,12 +125,12 @@ module _ (ys : List Class) (v : ℕ) (e : readByte ys ≡ Good v) where
   unfolding parityBit
   good-parity = odd-parity (ones value) (nthBit ys 9) (bit-lt (nthPair ys 9)) (good-parts .2)
 
-  pub read-good-lt : v < 256
-  read-good-lt = rw (← (good-parts .1)) (value-lt (nthBit ys) (λ j. bit-lt (nthPair ys j)) 8 1)
+  pub byteOf-good-lt : v < 256
+  byteOf-good-lt = rw (← (good-parts .1)) (value-lt (nthBit ys) (λ j. bit-lt (nthPair ys j)) 8 1)
 
-  pub read-good : take 20 ys ≡ byteClasses v
+  pub byteOf-good : take 20 ys ≡ byteClasses v
   unfolding byteClasses
-  read-good =
+  byteOf-good =
       two-more ys 0 18 (omega (arith, good-long))
       ∙ ap₂ (λ (a b : List Class). a ++ b) good-marker (good-coded 9 1 (lit≤ tt) (lit≤ tt))
       ∙ ap (λ (ds : List ℕ). Long ∷ Medium ∷ coded ds)
@@ -146,12 +145,12 @@ not-good (Good v) h = absurd (h v refl)
 not-good Bad h = refl
 
 -- fewer than twenty pulses
-read-fewer : (ys : List Class) → length ys < 20 → isBad (readByte ys) ≡ true
-read-fewer ys h = not-good (readByte ys) (λ v e. omega (arith, good-long ys v e))
+byteOf-fewer : (ys : List Class) → length ys < 20 → isBad (byteOf ys) ≡ true
+byteOf-fewer ys h = not-good (byteOf ys) (λ v e. omega (arith, good-long ys v e))
 
 -- a first pulse that is short
-read-short : (ys : List Class) → getD ys 0 Noise ≡ Short → isBad (readByte ys) ≡ true
-read-short ys s = not-good (readByte ys) (λ v e. let m = good-marker ys v e in let z : _≡_ {A = ℕ} 0 1 = cc in omega arith)
+byteOf-short : (ys : List Class) → getD ys 0 Noise ≡ Short → isBad (byteOf ys) ≡ true
+byteOf-short ys s = not-good (byteOf ys) (λ v e. let m = good-marker ys v e in let z : _≡_ {A = ℕ} 0 1 = cc in omega arith)
 
 -- ---- On a strip
 
@@ -159,20 +158,20 @@ module _ (cs : List Class) (p : ℕ) where
   -- the byte as written is read
   pub byteAt-written : (b : ℕ) → b < 256 → twenty cs p ≡ byteClasses b → byteAt cs p ≡ Good b
   unfolding byteAt
-  byteAt-written b h e = rw e (read-written b h)
+  byteAt-written b h e = rw e (byteOf-written b h)
 
   -- a good byte's twenty pulses are the ones written for its value, which is a byte's
   pub byteAt-good : (v : ℕ) → byteAt cs p ≡ Good v → (twenty cs p ≡ byteClasses v) × (v < 256)
   unfolding byteAt
-  byteAt-good v e = (sym (take-take 20 20 (drop p cs) (lit≤ tt)) ∙ read-good (twenty cs p) v e, read-good-lt (twenty cs p) v e)
+  byteAt-good v e = (sym (take-take 20 20 (drop p cs) (lit≤ tt)) ∙ byteOf-good (twenty cs p) v e, byteOf-good-lt (twenty cs p) v e)
 
   pub byteAt-fewer : length cs < p + 20 → isBad (byteAt cs p) ≡ true
   unfolding byteAt
-  byteAt-fewer h = read-fewer (twenty cs p) (simp (length-take, length-drop) (omega arith))
+  byteAt-fewer h = byteOf-fewer (twenty cs p) (simp (length-take, length-drop) (omega arith))
 
   pub byteAt-short : getD cs p Noise ≡ Short → isBad (byteAt cs p) ≡ true
   unfolding byteAt
-  byteAt-short s = read-short (twenty cs p) (getD-take 20 (drop p cs) 0 Noise (lit< tt) ∙ getD-drop p cs 0 Noise ∙ rw add-zero s)
+  byteAt-short s = byteOf-short (twenty cs p) (getD-take 20 (drop p cs) 0 Noise (lit< tt) ∙ getD-drop p cs 0 Noise ∙ rw add-zero s)
 
   -- a good byte lies within the strip
   pub byteAt-within : (v : ℕ) → byteAt cs p ≡ Good v → p + 20 ≤ length cs
@@ -180,14 +179,3 @@ module _ (cs : List Class) (p : ℕ) where
     | yes h ↦ h
     | no h ↦ absurd (let b = rw e at (byteAt-fewer (omega arith)) in let z : _≡_ {A = ℕ} 0 1 = cc in omega arith)
   ]
-
--- a byte that was put into a buffer is read there
-pub byteAt-put : (out : List ℕ) (at b : ℕ) → b < 256 → at + 20 ≤ length out → byteAt (classes fixed (putAt out at (bytePulses b))) at ≡ Good b
-unfolding putAt
-byteAt-put out at b h room =
-    let before = classes fixed (take at out) in
-    let after = classes fixed (drop (at + 20) out) in
-    byteAt-written (classes fixed (putAt out at (bytePulses b))) at b h
-    (rw (length-bytePulses b, le-leb (at + 20) (length out) room, map-append, map-append, classes-pulses, append-assoc)
-    (ap (take 20) (drop-at before (byteClasses b ++ after) at (length-map (take at out) (classOf fixed) ∙ length-take-le at out (omega arith)))
-    ∙ take-at (byteClasses b) after 20 (length-byte b)))

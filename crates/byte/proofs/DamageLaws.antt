@@ -16,9 +16,9 @@ use Rattle.pulse.specs.declared.Class.{Class}
 use Rattle.pulse.specs.Pulse.{code, same}
 use Rattle.byte.specs.declared.ByteRead.{ByteRead}
 use Rattle.byte.specs.declared.ByteRead.the-variants.{Good, Bad}
-use Rattle.byte.specs.Byte.{isOdd, bits, parityBit, coded, byteClasses, readByte, isBad, twenty, byteAt}
+use Rattle.byte.specs.Byte.{isOdd, bits, parityBit, coded, byteClasses, byteOf, isBad, twenty, byteAt}
 use Rattle.byte.specs.Damage.{differ}
-use Rattle.byte.proofs.ByteLaws.{read-written, read-good-lt, read-good}
+use Rattle.byte.proofs.ByteLaws.{byteOf-written, byteOf-good-lt, byteOf-good}
 
 -- ---- differ
 
@@ -67,27 +67,27 @@ nine-odd : (b : ℕ) → b < 256 → count (nineBits b) % 2 ≡ 1
 unfolding count bits parityBit isOdd ones
 nine-odd b h = eqb-true (count (nineBits b) % 2) 1 (every-at (λ v. eqb (count (nineBits v) % 2) 1) 256 refl b h)
 
-pub differ-byte : (b v : ℕ) → b < 256 → v < 256 → differ (byteClasses b) (byteClasses v) ≤ 3 → b ≡ v
+differ-byte : (b v : ℕ) → b < 256 → v < 256 → differ (byteClasses b) (byteClasses v) ≤ 3 → b ≡ v
 unfolding byteClasses bits differ same
 differ-byte b v hb hv h =
     let e : coded (nineBits b) ≡ coded (nineBits v) = close-three (nineBits b) (nineBits v) refl (nine-odd b hb ∙ sym (nine-odd v hv)) (omega arith) in
-    let r = read-written b hb in
-    let r′ = read-written v hv in
+    let r = byteOf-written b hb in
+    let r′ = byteOf-written v hv in
     let w : byteClasses b ≡ byteClasses v = cc in
     cc
 
 -- a byte with at most three of its twenty pulses in another class is bad, or the same byte
-read-differ : (b : ℕ) (ys : List Class) → b < 256 → length ys ≡ 20 → differ (byteClasses b) ys ≤ 3 → (isBad (readByte ys) ≡ true) ⊎ (readByte ys ≡ Good b)
-read-differ b ys hb l h = go (readByte ys) refl
+byteOf-differ : (b : ℕ) (ys : List Class) → b < 256 → length ys ≡ 20 → differ (byteClasses b) ys ≤ 3 → (isBad (byteOf ys) ≡ true) ⊎ (byteOf ys ≡ Good b)
+byteOf-differ b ys hb l h = go (byteOf ys) refl
   where
-    go : (r : ByteRead) → readByte ys ≡ r → (isBad r ≡ true) ⊎ (r ≡ Good b)
+    go : (r : ByteRead) → byteOf ys ≡ r → (isBad r ≡ true) ⊎ (r ≡ Good b)
     go Bad e = inl refl
     go (Good v) e =
-        let w : ys ≡ byteClasses v = sym (take-all 20 ys (omega arith)) ∙ read-good ys v e in
-        inr (ap Good (sym (differ-byte b v hb (read-good-lt ys v e) (rw w at h))))
+        let w : ys ≡ byteClasses v = sym (take-all 20 ys (omega arith)) ∙ byteOf-good ys v e in
+        inr (ap Good (sym (differ-byte b v hb (byteOf-good-lt ys v e) (rw w at h))))
 
 -- the same at a place of a strip
 pub byteAt-differ : (cs : List Class) (p b : ℕ) → b < 256 → p + 20 ≤ length cs → differ (byteClasses b) (twenty cs p) ≤ 3
     → (isBad (byteAt cs p) ≡ true) ⊎ (byteAt cs p ≡ Good b)
 unfolding byteAt
-byteAt-differ cs p b h l d = read-differ b (twenty cs p) h (simp (length-take, length-drop) (omega arith)) d
+byteAt-differ cs p b h l d = byteOf-differ b (twenty cs p) h (simp (length-take, length-drop) (omega arith)) d

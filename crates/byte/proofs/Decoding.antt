@@ -13,8 +13,8 @@ use Rattle.lists.proofs.PlaceLaws.{orElse, first-snoc}
 use Rattle.pulse.specs.declared.Class.{Class}
 use Rattle.byte.specs.declared.Pair.{Pair}
 use Rattle.byte.specs.declared.Decoder.{Decoder}
-use Rattle.byte.specs.Byte.{isSound, nthPair, nthBit, wrongPair, valueOf, checked, readByte, pairAt, twenty}
-use Rattle.byte.specs.Decoder.{empty, fed, closed}
+use Rattle.byte.specs.Byte.{isSound, nthPair, nthBit, wrongPair, valueOf, checked, byteOf, pairAt, twenty}
+use Rattle.byte.specs.private.Decoder.{empty, fed, closed}
 use Rattle.byte.proofs.CodingLaws.{value-next, value-or, value-lt}
 use Rattle.byte.proofs.PairLaws.{bit-lt, pair-twenty}
 
@@ -69,8 +69,8 @@ module _ (ys : List Class) where
   unfolding tabulate valueOf
   decoded-bits = let v = value-next (nthBit ys) 8 1 in omega arith
 
-  pub decoded-closed : closed (decoded ys 10) ≡ readByte ys
-  unfolding decoded readByte
+  pub decoded-closed : closed (decoded ys 10) ≡ byteOf ys
+  unfolding decoded byteOf
   decoded-closed =
       let m = bit-lt (nthPair ys 0) in
       let v = value-lt (nthBit ys) (λ j. bit-lt (nthPair ys j)) 8 1 in

@@ -2,7 +2,7 @@ mod Parity
 mod PairLaws
 mod Decoding
 mod NibbleLaws
-mod Stores
+pub mod Stores
 pub mod CodingLaws
 pub mod ByteLaws
 pub mod ValueLaws

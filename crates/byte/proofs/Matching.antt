@@ -17,9 +17,9 @@ use Rattle.pulse.specs.declared.Class.the-variants.{Short, Medium, Long, Noise}
 use Rattle.pulse.specs.Pulse.{same}
 use Rattle.byte.specs.declared.ByteRead.{ByteRead}
 use Rattle.byte.specs.declared.ByteRead.the-variants.{Good, Bad}
-use Rattle.byte.specs.Byte.{isOdd, bits, parityBit, coded, byteClasses, pairOf, bitOf, pairAt, nthPair, nthBit, wrongPair, valueOf, checked, readByte, twenty, byteAt, isGood}
-use Rattle.byte.specs.Decoder.{codeOf, fits}
-use Rattle.byte.proofs.ByteLaws.{read-written, byteAt-good, byteAt-within}
+use Rattle.byte.specs.Byte.{isOdd, bits, parityBit, coded, byteClasses, pairOf, bitOf, pairAt, nthPair, nthBit, wrongPair, valueOf, checked, byteOf, twenty, byteAt, isGood}
+use Rattle.byte.specs.private.Decoder.{codeOf, fits}
+use Rattle.byte.proofs.ByteLaws.{byteOf-written, byteAt-good, byteAt-within}
 use Rattle.byte.proofs.PairLaws.{pair-twenty}
 
 -- ---- The byte as written
@@ -66,8 +66,8 @@ module _ (ys : List Class) (v : ℕ) (all : (i : ℕ) → i < 10 → fits v i (n
   unfolding pairAt
   all-bits i l h = choice-bit (getD ys (2 * i) Noise) (getD ys (2 * i + 1) Noise) (bitIn v i) (omega arith) (rw (ne-eqb i 0 (λ q. omega arith)) at (all i h))
 
-  all-read : readByte ys ≡ checked none (valueOf (tabulate (bitIn v) 8 1)) (bitIn v 9)
-  unfolding readByte
+  all-read : byteOf ys ≡ checked none (valueOf (tabulate (bitIn v) 8 1)) (bitIn v 9)
+  unfolding byteOf
   all-read =
       rw (first-none (wrongPair ys) 10 0 (λ i a b. all-sound i (omega arith)))
       (ap₂ (checked none) (ap valueOf (tabulate-same (nthBit ys) (bitIn v) 8 1 (λ i a b. all-bits i a (omega arith)))) (all-bits 9 (lit≤ tt) (lit< tt)))
@@ -83,16 +83,16 @@ good-other v Bad h = refl
 
 module _ (cs : List Class) (p v : ℕ) where
   -- all ten pairs are as in the byte
-  pub matched : v < 256 → {i : ℕ} → 10 ≤ i → ((j : ℕ) → j < i → fits v j (pairAt cs (p + 2 * j)) ≡ true) → true ≡ isGood v (byteAt cs p)
+  pub matches-true : v < 256 → {i : ℕ} → 10 ≤ i → ((j : ℕ) → j < i → fits v j (pairAt cs (p + 2 * j)) ≡ true) → true ≡ isGood v (byteAt cs p)
   unfolding byteAt
-  matched small last all =
+  matches-true small last all =
       let ys = twenty cs p in
       let here : (j : ℕ) → j < 10 → fits v j (nthPair ys j) ≡ true = λ j h. ap (fits v j) (pair-twenty cs p j h) ∙ all j (omega arith) in
-      good-same v (all-read ys v here ∙ sym (all-read (byteClasses v) v (fits-written v small)) ∙ read-written v small)
+      good-same v (all-read ys v here ∙ sym (all-read (byteClasses v) v (fits-written v small)) ∙ byteOf-written v small)
 
   -- a pair is not
-  pub missed : (i : ℕ) → i < 10 → fits v i (pairAt cs (p + 2 * i)) ≡ false → false ≡ isGood v (byteAt cs p)
-  missed i h e = good-other v (byteAt cs p) (λ g.
+  pub matches-false : (i : ℕ) → i < 10 → fits v i (pairAt cs (p + 2 * i)) ≡ false → false ≡ isGood v (byteAt cs p)
+  matches-false i h e = good-other v (byteAt cs p) (λ g.
       let w = byteAt-good cs p v g in
       let t = ap (λ ys. fits v i (nthPair ys i)) (w .0) in
       let f = fits-written v (w .1) i h in
@@ -100,5 +100,5 @@ module _ (cs : List Class) (p v : ℕ) where
       let z : _≡_ {A = ℕ} 0 1 = cc in omega arith)
 
   -- there are not twenty pulses
-  pub too-few : length cs < p + 20 → false ≡ isGood v (byteAt cs p)
-  too-few h = good-other v (byteAt cs p) (λ g. let w = byteAt-within cs p v g in omega arith)
+  pub matches-fewer : length cs < p + 20 → false ≡ isGood v (byteAt cs p)
+  matches-fewer h = good-other v (byteAt cs p) (λ g. let w = byteAt-within cs p v g in omega arith)

@@ -13,10 +13,10 @@ use Rattle.lists.proofs.Table.{every-at}
 use Rattle.lists.proofs.TextLaws.{equal-same}
 use Rattle.pulse.specs.Pulse.{writtenAs, pulses}
 use Rattle.byte.specs.Byte.{bits, coded}
-use Rattle.byte.specs.Nibbles.{nibble, nibblesFrom, nibbles}
+use Rattle.byte.specs.private.Nibbles.{nibble, nibblesFrom, nibbles}
 use Rattle.byte.proofs.CodingLaws.{coded-append, length-coded, length-bits}
 
-pub length-nibble : (n : ℕ) → length (nibble n) ≡ 8
+length-nibble : (n : ℕ) → length (nibble n) ≡ 8
 length-nibble n = length-map (coded (bits 4 n)) writtenAs ∙ length-coded (bits 4 n) ∙ ap (λ k. 2 * k) (length-bits 4 n)
 
 -- ---- The table

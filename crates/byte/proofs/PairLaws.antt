@@ -33,7 +33,7 @@ bit-lt p = flag-lt (p .one)
 -- ---- Where pairs stand
 
 -- two pulses that are no pair
-abbrev pub noPair : Pair
+abbrev noPair : Pair
 noPair = record { marker = false; zero = false; one = false }
 
 -- two pulses read where they lie

@@ -3,20 +3,26 @@ use Prim.Native.Nat.{ℕ, zero, suc, _+_, _*_, _/_, _%_, _≤_, _<_}
 use native.Mathlib.Numerals.{add-one}
 use native.Mathlib.Omega.{arith}
 use mathlib.Core.Path.{_≡_, refl, sym, ap, _∙_}
-use mathlib.Core.Bool.{true, false}
 use mathlib.Core.List.{List, [], _∷_, _++_, append-nil, map-append}
-use borrow.Author.Tests.{le-leb, lt-leb}
 use lib.ListN.{length, drop, getD, drop-of-length-le}
 use lib.Seq.{sets, drop-cons}
-use Rattle.lists.specs.Buffer.{hasRoom, putAt}
-use Rattle.lists.proofs.BufferLaws.{put-room, put-none}
+use Rattle.lists.specs.Buffer.{putAt}
+use Rattle.lists.proofs.BufferLaws.{put-room}
 use Rattle.lists.proofs.LoopLaws.{Putting, put-begun, put-next, put-done}
+use Rattle.refusal.specs.declared.Reason.the-variants.{NoRoom}
+use Rattle.refusal.specs.declared.Refusal.{Refusal}
+use Rattle.refusal.specs.declared.Put.the-variants.{Count, Refused}
+use Rattle.refusal.specs.Refusal.{refusalAt}
+use Rattle.refusal.specs.Outcome.{accepted}
+use Rattle.refusal.specs.Promise.{Fills, itself, Written}
+use Rattle.refusal.proofs.OutcomeLaws.{ifRoom-noRoom, ifRoom-room}
+use Rattle.refusal.proofs.PromiseLaws.{written-refused, written-accepted}
 use Rattle.pulse.specs.declared.Class.{Class}
 use Rattle.pulse.specs.declared.Class.the-variants.{Short, Medium, Long}
 use Rattle.pulse.specs.Pulse.{writtenAs, pulses}
 use Rattle.pulse.proofs.PulseLaws.{put-pulses}
-use Rattle.byte.specs.Byte.{bits, parityBit, coded, byteClasses, bytePulses, bytesClasses, bytesPulses}
-use Rattle.byte.specs.Nibbles.{nibble}
+use Rattle.byte.specs.Byte.{bits, parityBit, coded, byteClasses, bytePulses, bytesClasses, bytesPulses, writeBytes}
+use Rattle.byte.specs.private.Nibbles.{nibble}
 use Rattle.byte.proofs.CodingLaws.{coded-append, length-coded, length-bits, length-bytePulses, length-bytesPulses}
 use Rattle.byte.proofs.NibbleLaws.{bits-put}
 
@@ -52,36 +58,34 @@ byte-put out at b {one} h e f f′ p g =
 
 -- ---- Bytes: with i of them put, the rest put after them gives the whole
 
-module _ (out₀ : List ℕ) (at : ℕ) (bytes : List ℕ) where
+module _ (out₀ bytes : List ℕ) where
   abbrev pub BytesPut : List ℕ → ℕ → Type 0
-  BytesPut out i = Putting out₀ at (bytesPulses bytes) out (at + 20 * i) (bytesPulses (drop i bytes))
-
-  pub bytes-begun : BytesPut out₀ 0
-  bytes-begun = put-begun out₀ at (at + 20 * 0) _ _ (omega arith) refl
+  BytesPut out i = Putting out₀ 0 (bytesPulses bytes) out (20 * i) (bytesPulses (drop i bytes))
 
   module _ {out : List ℕ} {i : ℕ} (u : BytesPut out i) where
     rest-next : i < length bytes → bytesPulses (drop i bytes) ≡ bytePulses (getD bytes i 0) ++ bytesPulses (drop (i + 1) bytes)
     unfolding bytesClasses
     rest-next h = rw (drop-cons bytes i 0 h, add-one) (map-append writtenAs (byteClasses (getD bytes i 0)) (bytesClasses (drop (suc i) bytes)))
 
-    pub bytes-next : {out′ : List ℕ} → i < length bytes → out′ ≡ sets out (at + 20 * i) (bytePulses (getD bytes i 0)) → BytesPut out′ (i + 1)
-    bytes-next h e =
+    pub bytesPut-next : {out′ : List ℕ} → i < length bytes → out′ ≡ sets out (20 * i) (bytePulses (getD bytes i 0)) → BytesPut out′ (i + 1)
+    bytesPut-next h e =
         put-next u (bytePulses (getD bytes i 0)) (bytesPulses (drop (i + 1) bytes)) (rest-next h) e (rw (length-bytePulses (getD bytes i 0)) (omega arith))
 
-    pub bytes-done : length bytes ≤ i → at + 20 * length bytes ≤ length out₀
-        → (true ≡ hasRoom out₀ at (20 * length bytes)) × (out ≡ putAt out₀ at (bytesPulses bytes))
-    unfolding bytesClasses
-    bytes-done h room = (
-      sym (le-leb (at + 20 * length bytes) (length out₀) room),
-      put-done u (ap bytesPulses (drop-of-length-le bytes h)) ∙ put-room out₀ at (bytesPulses bytes) (rw (length-bytesPulses bytes) room),
-    )
+    pub writeBytes-whole : length bytes ≤ i → 20 * length bytes ≤ length out₀ → Written (writeBytes (length out₀) bytes) out₀ (Count (20 * length bytes)) out
+    unfolding bytesClasses writeBytes
+    writeBytes-whole h room =
+        let long = length-bytesPulses bytes in
+        written-accepted (writeBytes (length out₀) bytes) out₀ (ifRoom-room (length out₀) (length (bytesPulses bytes)) _ (rw long room)) long
+        (put-done u (ap bytesPulses (drop-of-length-le bytes h)) ∙ put-room out₀ 0 (bytesPulses bytes) (omega arith))
 
-  pub bytes-none : length out₀ < at + 20 * length bytes
-      → (false ≡ hasRoom out₀ at (20 * length bytes)) × (out₀ ≡ putAt out₀ at (bytesPulses bytes))
-  bytes-none full =
-      (sym (lt-leb (at + 20 * length bytes) (length out₀) full), sym (put-none out₀ at (bytesPulses bytes) (rw (length-bytesPulses bytes) full)))
+  pub writeBytes-noRoom : {r : Refusal} → length out₀ < 20 * length bytes → r ≡ refusalAt NoRoom 0
+      → Written (writeBytes (length out₀) bytes) out₀ (Refused r) out₀
+  unfolding writeBytes
+  writeBytes-noRoom full =
+      written-refused (writeBytes (length out₀) bytes) out₀ (ifRoom-noRoom (length out₀) (length (bytesPulses bytes)) _ (rw (length-bytesPulses bytes) full))
 
--- one byte
-pub bytes-one : (b : ℕ) → bytesPulses (b ∷ []) ≡ bytePulses b
-unfolding bytesClasses
-bytes-one b = ap pulses (append-nil (byteClasses b))
+-- where there is room, the pulses are stored
+pub writeBytes-stored : (out : List ℕ) {out′ : List ℕ} (bytes : List ℕ) → 20 * length bytes ≤ length out
+    → Fills itself (writeBytes (length out) bytes) out out′ → out′ ≡ putAt out 0 (bytesPulses bytes)
+unfolding writeBytes
+writeBytes-stored out bytes room f = rw (ifRoom-room (length out) (length (bytesPulses bytes)) (accepted (bytesPulses bytes)) (rw (length-bytesPulses bytes) room)) at f

@@ -20,7 +20,7 @@ use Rattle.pulse.specs.declared.Class.the-variants.{Short, Medium, Long, Noise}
 use Rattle.pulse.specs.Pulse.{classOf, classes, same}
 use Rattle.byte.specs.declared.ByteRead.the-variants.{Good}
 use Rattle.byte.specs.Byte.{pairOf, isSound, bitOf, nthPair, nthBit, valueOf, twenty, byteAt}
-use Rattle.byte.specs.Decoder.{leadBit, bitsAt}
+use Rattle.byte.specs.private.Decoder.{leadBit, bitsAt}
 use Rattle.byte.proofs.CodingLaws.{value-or}
 use Rattle.byte.proofs.PairLaws.{flag-lt, flag-number, pair-there, pair-twenty}
 use Rattle.byte.proofs.ByteLaws.{good-parts, good-sound, byteAt-within}

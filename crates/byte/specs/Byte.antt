@@ -4,9 +4,10 @@ use mathlib.Core.Bool.{Bool, true, false, cond, not, _&&_, _||_}
 use mathlib.Core.List.{List, [], _∷_, _++_}
 use mathlib.Core.Option.{Option, none, some}
 use lib.Dec.{eqb}
-use lib.ListN.{take, drop, getD}
+use lib.ListN.{length, getD}
 use lib.Count.{ones}
-use Rattle.lists.specs.Places.{firstFrom, tabulate}
+use Rattle.lists.specs.Places.{firstFrom, tabulate, part}
+use Rattle.refusal.specs.Outcome.{Outcome, accepted, ifRoom}
 use Rattle.pulse.specs.declared.Class.{Class}
 use Rattle.pulse.specs.declared.Class.the-variants.{Short, Medium, Long, Noise}
 use Rattle.pulse.specs.Pulse.{pulses, same}
@@ -51,6 +52,10 @@ bytesClasses (b ∷ bs) = byteClasses b ++ bytesClasses bs
 abbrev pub bytesPulses : (bytes : List ℕ) → List ℕ
 bytesPulses bytes = pulses (bytesClasses bytes)
 
+-- bytes written into `room` places: refusal 2, else their pulses
+unfoldable pub writeBytes : (room : ℕ) (bytes : List ℕ) → Outcome (List ℕ)
+writeBytes room bytes = ifRoom room (length (bytesPulses bytes)) (accepted (bytesPulses bytes))
+
 -- ---- As read
 
 -- two pulses: L M is the marker, S M is 0, M S is 1
@@ -94,16 +99,16 @@ checked none value parity = cond (isOdd (ones value + parity)) (Good value) Bad
 checked (some i) value parity = Bad
 
 -- what twenty pulses are
-unfoldable pub readByte : List Class → ByteRead
-readByte ys = checked (firstFrom (wrongPair ys) 10 0) (valueOf (tabulate (nthBit ys) 8 1)) (nthBit ys 9)
+unfoldable pub byteOf : List Class → ByteRead
+byteOf ys = checked (firstFrom (wrongPair ys) 10 0) (valueOf (tabulate (nthBit ys) 8 1)) (nthBit ys 9)
 
 -- the twenty pulses from a place of a strip on; fewer, where the strip ends before
 abbrev pub twenty : List Class → ℕ → List Class
-twenty cs p = take 20 (drop p cs)
+twenty cs p = part cs p 20
 
 -- the byte at a place of a strip
 unfoldable pub byteAt : List Class → ℕ → ByteRead
-byteAt cs p = readByte (twenty cs p)
+byteAt cs p = byteOf (twenty cs p)
 
 -- good, with this value
 abbrev pub isGood : ℕ → ByteRead → Bool
@@ -114,5 +119,3 @@ isGood v Bad = false
 abbrev pub isBad : ByteRead → Bool
 isBad (Good v) = false
 isBad Bad = true
-
--- ---- As read from a byte that is known to be good

@@ -1,4 +1,3 @@
 pub mod Byte
-pub mod Decoder
 pub mod Damage
-pub mod Nibbles
+pub mod private

@@ -7,16 +7,18 @@
 use pulse::Class;
 use pulse::Cycles;
 use pulse::Thresholds;
-ghost use Prim.Native.Nat.{_+_, _*_, _≤_, _<_};
+use refusal::Put;
+use refusal::Reason;
+ghost use Prim.Native.Nat.{_+_, _≤_, _<_};
 ghost use mathlib.Core.Path.{_≡_};
 ghost use mathlib.Core.List.{[], _∷_};
 ghost use lib.ListN.{length};
 ghost use lib.Seq.{sets};
-ghost use Rattle.lists.specs.Buffer.{hasRoom, putAt};
+ghost use Rattle.refusal.specs.Promise.{Written};
 ghost use Rattle.pulse.specs.Pulse.{classOf, classes, pulses};
-ghost use Rattle.byte.specs.Byte.{isOdd, parityBit, coded, bytePulses, bytesPulses, pairOf, isSound, bitOf, byteAt, isGood};
-ghost use Rattle.byte.specs.Decoder.{empty, fed, closed, codeOf, isPair};
-ghost use Rattle.byte.specs.Nibbles.{nibble, nibbles};
+ghost use Rattle.byte.specs.Byte.{isOdd, parityBit, coded, bytePulses, writeBytes, pairOf, isSound, bitOf, byteAt, isGood};
+ghost use Rattle.byte.specs.private.Decoder.{empty, fed, closed, codeOf, isPair};
+ghost use Rattle.byte.specs.private.Nibbles.{nibble, nibbles};
 
 // What twenty pulses are.
 pub enum ByteRead {
@@ -50,7 +52,7 @@ const VALUES: u32 = 256;
 const PARITY: u32 = FIRST * VALUES;
 
 // The byte at an index of a strip. Fewer than twenty pulses there are bad.
-pub fn read_byte(t: Thresholds, strip: &[u32], at: usize) -> ByteRead
+pub fn byte_at(t: Thresholds, strip: &[u32], at: usize) -> ByteRead
     ensures { λ r. ⌜ r ≡ byteAt (classes t (now (strip .entry))) at ⌝ }
 {
     if strip.len() < BYTE_PULSES {
@@ -95,32 +97,20 @@ pub fn matches(t: Thresholds, strip: &[u32], at: usize, value: u8) -> bool
     true
 }
 
-// Puts the twenty pulses of a byte at an index, and answers whether there was room. Without room nothing is put.
-pub fn put_byte(out: &mut [u32], at: usize, b: u8) -> bool
-    ensures room { λ r. ⌜ r ≡ hasRoom (now (out .entry)) at 20 ⌝ }
-    ensures put { λ _. ⌜ now (out .exit) ≡ putAt (now (out .entry)) at (bytePulses b) ⌝ }
+// Writes bytes one after the other, twenty pulses each, and answers the number of pulses put. It refuses an output that is too short.
+pub fn write_bytes(values: &[u8], out: &mut [u32]) -> Put
+    ensures { λ r. ⌜ Written (writeBytes (length (now (out .entry))) (now (values .entry))) (now (out .entry)) r (now (out .exit)) ⌝ }
 {
-    put_bytes(out, at, &[b])
-}
-
-// The same for bytes one after the other: without room for all of them nothing is put.
-pub fn put_bytes(out: &mut [u32], at: usize, values: &[u8]) -> bool
-    ensures room { λ r. ⌜ r ≡ hasRoom (now (out .entry)) at (20 * length (now (values .entry))) ⌝ }
-    ensures put { λ _. ⌜ now (out .exit) ≡ putAt (now (out .entry)) at (bytesPulses (now (values .entry))) ⌝ }
-{
-    if out.len() < at {
-        return false;
-    }
-    if (out.len() - at) / BYTE_PULSES < values.len() {
-        return false;
+    if out.len() / BYTE_PULSES < values.len() {
+        return Put::Refused(refusal::at(Reason::NoRoom, 0));
     }
     let table = NIBBLE_TABLE;
     let mut i: usize = 0;
     while i < values.len() {
-        put_twenty(out, at + BYTE_PULSES * i, &table, values[i]);
+        put_twenty(out, BYTE_PULSES * i, &table, values[i]);
         i = i + 1;
     }
-    true
+    Put::Count(BYTE_PULSES * values.len())
 }
 
 // What two pulses are: L M is the marker, S M a 0, M S a 1. As truth values, these are computed without a branch.

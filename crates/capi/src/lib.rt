@@ -1,8 +1,5 @@
 // The C interface: the library's calls with plain structs for their answers, as `include/crumbthistle.h` declares them. A slice is a
-// pointer and a length in C.
-//
-// In every answer `refusal` is 0 where the call accepted, and then `block` and `place` are 0 too; else it is the number of the refusal, and
-// all numbers after `place` are 0.
+// pointer and a length in C. Every answer begins with its refusal.
 use block::BlockAnswer;
 use file::FileAnswer;
 use file::Loaded;
@@ -13,32 +10,39 @@ use refusal::Refusal;
 use tap::TapAnswer;
 ghost use mathlib.Core.Path.{_≡_};
 ghost use lib.ListN.{length};
-ghost use Rattle.refusal.specs.Refusal.{numberOf, putAnswer, mapped};
+ghost use Rattle.refusal.specs.Refusal.{whyOf};
+ghost use Rattle.refusal.specs.Outcome.{mapped};
+ghost use Rattle.refusal.specs.Promise.{putAnswer};
 ghost use Rattle.pulse.specs.Pulse.{fixed, classes};
 ghost use Rattle.block.specs.Block.{writeBlock};
 ghost use Rattle.block.specs.Reading.{readBlock, blockAnswer};
-ghost use Rattle.header.specs.Header.{packHeader, unpackHeader, headerAnswer};
+ghost use Rattle.header.specs.Header.{packHeader, unpackHeader, headerAnswer, shownSpan};
 ghost use Rattle.file.specs.File.{file, writeFile};
 ghost use Rattle.file.specs.Reading.{readFile, fileAnswer};
 ghost use Rattle.tap.specs.Tap.{writeTap};
 ghost use Rattle.tap.specs.Reading.{readTap, tapAnswer};
-ghost use Rattle.capi.specs.Flat.{flatPut, flatBlock, loneHeader, noFile, fileStruct, flatFile, flatTap, shownSpan, PutFlat, BlockFlat, FileFlat, TapFlat};
+ghost use Rattle.capi.specs.Flat.{noRefusal, flatRefusal, flatPut, flatBlock, loneHeader, flatFile, flatTap, flatSpan, PutFlat, BlockFlat, FileFlat, TapFlat};
+
+// Why a call refuses: the number of the refusal, the block and the place. All are 0 where it accepts; where it refuses, all numbers of the
+// answer after the refusal are 0.
+#[repr(C)]
+pub struct TapeRefusal {
+    pub number: u32,
+    pub block: u32,
+    pub place: u64,
+}
 
 // What a writer answers: how many pulses or bytes were put.
 #[repr(C)]
 pub struct TapePut {
-    pub refusal: u32,
-    pub block: u32,
-    pub place: u64,
+    pub refusal: TapeRefusal,
     pub count: u64,
 }
 
 // What the block reader answers: payload bytes, start, and the place after copy two.
 #[repr(C)]
 pub struct TapeBlock {
-    pub refusal: u32,
-    pub block: u32,
-    pub place: u64,
+    pub refusal: TapeRefusal,
     pub n: u64,
     pub start: u64,
     pub end: u64,
@@ -47,9 +51,7 @@ pub struct TapeBlock {
 // What the file reader and unpacking a header answer: type, addresses, and the end of the data block. The kind is the type.
 #[repr(C)]
 pub struct TapeFile {
-    pub refusal: u32,
-    pub block: u32,
-    pub place: u64,
+    pub refusal: TapeRefusal,
     pub kind: u32,
     pub start: u32,
     pub end: u32,
@@ -59,16 +61,15 @@ pub struct TapeFile {
 // What the TAP reader answers: version, and how many durations were put.
 #[repr(C)]
 pub struct TapeTap {
-    pub refusal: u32,
-    pub block: u32,
-    pub place: u64,
+    pub refusal: TapeRefusal,
     pub version: u32,
     pub count: u64,
 }
 
-// A part of a lent buffer.
+// What the shown name's call answers: the part of the lent header that holds it.
 #[repr(C)]
 pub struct TapeSpan {
+    pub refusal: TapeRefusal,
     pub offset: u64,
     pub length: u64,
 }
@@ -144,23 +145,24 @@ pub extern "C" fn tape_pack_header(
 pub extern "C" fn tape_unpack_header(header: &[u8]) -> TapeFile
     ensures { λ r. ⌜ r ≡ flatFile (mapped loneHeader (unpackHeader (now (header .entry)))) ⌝ }
 {
-    flat_header(header::unpack_header(header))
+    flat_file(lone_header(header::unpack_header(header)))
 }
 
 #[no_mangle]
 pub extern "C" fn tape_shown_name(header: &[u8]) -> TapeSpan
-    ensures { λ r. ⌜ r ≡ shownSpan (now (header .entry)) ⌝ }
+    ensures { λ r. ⌜ r ≡ flatSpan (shownSpan (now (header .entry))) ⌝ }
 {
-    let HeaderAnswer::Accepted(_) = header::unpack_header(header) else {
-        return TapeSpan {
+    match header::unpack_header(header) {
+        HeaderAnswer::Accepted(_) => TapeSpan {
+            refusal: no_refusal(),
+            offset: header::NAME_AT as u64,
+            length: header::shown_name(header).len() as u64,
+        },
+        HeaderAnswer::Refused(why) => TapeSpan {
+            refusal: flat_refusal(why),
             offset: 0,
             length: 0,
-        };
-    };
-    let name = header::shown_name(header);
-    TapeSpan {
-        offset: header::NAME_AT as u64,
-        length: name.len() as u64,
+        },
     }
 }
 
@@ -187,20 +189,13 @@ fn flat_put(p: Put) -> TapePut
 {
     match p {
         Put::Count(n) => TapePut {
-            refusal: 0,
-            block: 0,
-            place: 0,
+            refusal: no_refusal(),
             count: n as u64,
         },
-        Put::Refused(r) => {
-            let reason = r.reason;
-            TapePut {
-                refusal: refusal::number(reason),
-                block: r.block,
-                place: r.place as u64,
-                count: 0,
-            }
-        }
+        Put::Refused(r) => TapePut {
+            refusal: flat_refusal(r),
+            count: 0,
+        },
     }
 }
 
@@ -209,33 +204,17 @@ fn flat_block(b: BlockAnswer) -> TapeBlock
 {
     match b {
         BlockAnswer::Accepted(e) => TapeBlock {
-            refusal: 0,
-            block: 0,
-            place: 0,
+            refusal: no_refusal(),
             n: e.n as u64,
             start: e.start as u64,
             end: e.end as u64,
         },
-        BlockAnswer::Refused(r) => {
-            let reason = r.reason;
-            TapeBlock {
-                refusal: refusal::number(reason),
-                block: r.block,
-                place: r.place as u64,
-                n: 0,
-                start: 0,
-                end: 0,
-            }
-        }
-    }
-}
-
-fn flat_header(h: HeaderAnswer) -> TapeFile
-    ensures { λ r. ⌜ r ≡ flatFile (mapped loneHeader (headerAnswer h)) ⌝ }
-{
-    match h {
-        HeaderAnswer::Accepted(fields) => flat_loaded(Loaded { fields, stop: 0 }),
-        HeaderAnswer::Refused(r) => no_file(r),
+        BlockAnswer::Refused(r) => TapeBlock {
+            refusal: flat_refusal(r),
+            n: 0,
+            start: 0,
+            end: 0,
+        },
     }
 }
 
@@ -243,38 +222,33 @@ fn flat_file(f: FileAnswer) -> TapeFile
     ensures { λ r. ⌜ r ≡ flatFile (fileAnswer f) ⌝ }
 {
     match f {
-        FileAnswer::Accepted(l) => flat_loaded(l),
-        FileAnswer::Refused(r) => no_file(r),
+        FileAnswer::Accepted(l) => {
+            let fields = l.fields;
+            TapeFile {
+                refusal: no_refusal(),
+                kind: fields.kind as u32,
+                start: fields.start as u32,
+                end: fields.end as u32,
+                stop: l.stop as u64,
+            }
+        }
+        FileAnswer::Refused(r) => TapeFile {
+            refusal: flat_refusal(r),
+            kind: 0,
+            start: 0,
+            end: 0,
+            stop: 0,
+        },
     }
 }
 
-fn flat_loaded(l: Loaded) -> TapeFile
-    ensures { λ r. ⌜ r ≡ fileStruct 0 0 0 l ⌝ }
+// What unpacking a header answers, as the file reader does: a lone header has no data block, and its stop is 0.
+fn lone_header(h: HeaderAnswer) -> FileAnswer
+    ensures { λ r. ⌜ fileAnswer r ≡ mapped loneHeader (headerAnswer h) ⌝ }
 {
-    let fields = l.fields;
-    TapeFile {
-        refusal: 0,
-        block: 0,
-        place: 0,
-        kind: fields.kind as u32,
-        start: fields.start as u32,
-        end: fields.end as u32,
-        stop: l.stop as u64,
-    }
-}
-
-fn no_file(r: Refusal) -> TapeFile
-    ensures { λ t. ⌜ t ≡ fileStruct (numberOf (r .reason)) (r .block) (r .place) noFile ⌝ }
-{
-    let reason = r.reason;
-    TapeFile {
-        refusal: refusal::number(reason),
-        block: r.block,
-        place: r.place as u64,
-        kind: 0,
-        start: 0,
-        end: 0,
-        stop: 0,
+    match h {
+        HeaderAnswer::Accepted(fields) => FileAnswer::Accepted(Loaded { fields, stop: 0 }),
+        HeaderAnswer::Refused(r) => FileAnswer::Refused(r),
     }
 }
 
@@ -283,21 +257,35 @@ fn flat_tap(t: TapAnswer) -> TapeTap
 {
     match t {
         TapAnswer::Accepted(info) => TapeTap {
-            refusal: 0,
-            block: 0,
-            place: 0,
+            refusal: no_refusal(),
             version: info.version as u32,
             count: info.count as u64,
         },
-        TapAnswer::Refused(r) => {
-            let reason = r.reason;
-            TapeTap {
-                refusal: refusal::number(reason),
-                block: r.block,
-                place: r.place as u64,
-                version: 0,
-                count: 0,
-            }
-        }
+        TapAnswer::Refused(r) => TapeTap {
+            refusal: flat_refusal(r),
+            version: 0,
+            count: 0,
+        },
+    }
+}
+
+fn no_refusal() -> TapeRefusal
+    ensures { λ t. ⌜ t ≡ noRefusal ⌝ }
+{
+    TapeRefusal {
+        number: 0,
+        block: 0,
+        place: 0,
+    }
+}
+
+fn flat_refusal(r: Refusal) -> TapeRefusal
+    ensures { λ t. ⌜ t ≡ flatRefusal (whyOf r) ⌝ }
+{
+    let reason = r.reason;
+    TapeRefusal {
+        number: refusal::number_of(reason),
+        block: r.block,
+        place: r.place as u64,
     }
 }

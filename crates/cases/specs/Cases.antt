@@ -3,7 +3,7 @@ use Prim.Native.Nat.{ℕ, _+_, _*_}
 use mathlib.Core.Path.{_≡_}
 use mathlib.Core.List.{List, [], _∷_}
 use lib.ListN.{length, getD, set, replicate}
-use Rattle.refusal.specs.Refusal.{refusedBy, accepted, mapped}
+use Rattle.refusal.specs.Outcome.{refusedBy, accepted, mapped}
 use Rattle.pulse.specs.declared.Class.the-variants.{Short, Medium, Long, Noise}
 use Rattle.pulse.specs.Pulse.{fixed, classOf, classes}
 use Rattle.byte.specs.declared.ByteRead.the-variants.{Good}

@@ -1,6 +1,6 @@
 -- Demand 3: whatever the tape does within the damage of a file, the reader returns what was written; and no strip lies within the damage
 -- of two files that differ. It is stated over the promises of the writer and the reader themselves.
-use Prim.Native.Nat.{ℕ, _+_, _-_, _*_, _≤_}
+use Prim.Native.Nat.{ℕ, _+_, _-_, _≤_}
 use native.Mathlib.Omega.{arith}
 use mathlib.Core.Path.{_≡_, refl, sym, ap, _∙_}
 use mathlib.Core.List.{List}
@@ -11,11 +11,12 @@ use Rattle.lists.specs.Places.{part}
 use Rattle.lists.specs.Buffer.{putAt}
 use Rattle.lists.proofs.PartLaws.{part-part}
 use Rattle.lists.proofs.BufferLaws.{part-put, rest-front}
-use Rattle.refusal.specs.Refusal.{accepted, mapped, puts}
+use Rattle.refusal.specs.Outcome.{accepted, mapped, puts}
 use Rattle.refusal.proofs.OutcomeLaws.{accepted-once, mapped-accepted}
 use Rattle.pulse.specs.declared.Thresholds.{Thresholds}
 use Rattle.pulse.specs.Pulse.{fixed, classes}
-use Rattle.block.specs.Reading.{endOf}
+use Rattle.start.specs.Copies.{endOf}
+use Rattle.block.specs.Block.{blockLength}
 use Rattle.block.proofs.BlockLaws.{length-blockPulses}
 use Rattle.block.proofs.DamageLaws.{undamaged}
 use Rattle.header.proofs.HeaderLaws.{length-header, fields-header, header-name}
@@ -23,10 +24,11 @@ use Rattle.file.specs.declared.Loaded.{Loaded}
 use Rattle.file.specs.declared.FileAnswer.{FileAnswer}
 use Rattle.file.specs.declared.FileAnswer.the-variants.{Accepted, Refused}
 use Rattle.file.specs.File.{File, fileHeader, headerPulses, dataPulses, filePulses, dataBytes, writeFile}
-use Rattle.file.specs.Reading.{FileRead, loadedOf, headerOf, bytesOf, readFile, fileAnswer, Reads}
+use Rattle.file.specs.Reading.{FileRead, loadedOf, headerOf, bytesOf, readFile, fileAnswer, FilePromise}
 use Rattle.file.specs.Damage.{FileDamaged}
-use Rattle.file.specs.Claim.{Sent, Enough, Returned, SameFile, Demand3}
-use Rattle.file.proofs.FileLaws.{Taken, accepted-taken, taken-accepted, length-filePulses, file-read}
+use Rattle.file.specs.Claim.{Sent, Enough, FileReturned, SameFile, Demand3}
+use Rattle.file.proofs.FileLaws.{Taken, accepted-taken, taken-accepted, length-filePulses, readFileBy-damaged}
+use Rattle.file.proofs.ReaderLaws.{rules-damaged}
 
 -- what the file is read as
 abbrev pub asWritten : File → (strip : List ℕ) → FileRead
@@ -56,14 +58,15 @@ module _ {f : File} {out out′ : List ℕ} {count : ℕ} (sent : Sent f out cou
         let n = dataBytes (f .fields) in
         let p = 0 + length (headerPulses f) + f .leader₁ in
         let whole : part strip 0 (length (filePulses f)) ≡ strip = take-all (length (filePulses f)) strip (omega (arith, d .long, length-count)) in
-        let r = file-read t f (sent .typed) right strip 0 (rw (whole, length-count) d) 0 (omega (arith, right .leader₀ .low)) (λ i x y. absurd (omega arith)) headerRoom dataRoom h b in
-        let size : length (dataPulses f) ≡ f .leader₁ + 40 * (n + 10) + 122 = rw (right .size) (length-blockPulses (f .leader₁) (f .bytes)) in
+        let r = readFileBy-damaged t f (sent .typed) right strip 0 (rw (whole, length-count) d) 0 (omega (arith, right .leader₀ .low)) (λ i x y. absurd (omega arith))
+        (rules-damaged t strip) headerRoom dataRoom h b in
+        let size : length (dataPulses f) ≡ blockLength (f .leader₁) n = rw (right .size) (length-blockPulses (f .leader₁) (f .bytes)) in
         let stop : endOf p n ≡ length strip - 61 = omega (arith, d .long, length-count, length-filePulses f) in
-        r ∙ rw (fields-header (f .fields) (f .name), stop)
+        r ∙ rw (fields-header (f .fields) (f .name) (sent .typed .start) (sent .typed .end), stop)
 
     -- what the reader promises from place 0 on is to return the file
-    returned : (h b : List ℕ) (r : FileAnswer) (h′ b′ : List ℕ) → Enough f h b → Reads (readFile (classes t strip) (length h) (length b) 0) h b r h′ b′
-        → Returned f strip h b r h′ b′
+    returned : (h b : List ℕ) (r : FileAnswer) (h′ b′ : List ℕ) → Enough f h b → FilePromise (readFile (classes t strip) (length h) (length b) 0) h b r h′ b′
+        → FileReturned f strip h b r h′ b′
     returned h b r h′ b′ enough promised =
         let e = readFile-damaged (length h) (length b) (enough .header) (enough .bytes) in
         let put₀ : h′ ≡ putAt h 0 (fileHeader f) = promised .1 .0 ∙ ap (λ o. putAt h 0 (puts (mapped headerOf o))) e in

@@ -1,3 +1,4 @@
+pub mod ReaderLaws
 mod Writing
 mod Loading
 pub mod FileLaws

@@ -8,7 +8,7 @@ use lib.Dec.{lit<, lit≤}
 use lib.ListN.{length, replicate}
 use Rattle.lists.specs.Buffer.{putAt}
 use Rattle.lists.proofs.PlaceLaws.{below-one}
-use Rattle.refusal.proofs.OutcomeLaws.{written-accepted}
+use Rattle.refusal.proofs.PromiseLaws.{written-accepted}
 use Rattle.file.specs.File.{File, file, filePulses, writeFile}
 use Rattle.file.specs.Claim.{Typed, Sent, Enough}
 use Rattle.file.proofs.FileLaws.{Taken, taken-accepted}

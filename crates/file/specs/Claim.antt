@@ -5,13 +5,13 @@ use mathlib.Core.List.{List}
 use lib.ListN.{length, drop}
 use Rattle.lists.specs.Places.{part, Below}
 use Rattle.refusal.specs.declared.Put.the-variants.{Count}
-use Rattle.refusal.specs.Refusal.{Written}
+use Rattle.refusal.specs.Promise.{Written}
 use Rattle.pulse.specs.Pulse.{fixed, classes}
 use Rattle.header.specs.Header.{filled}
 use Rattle.file.specs.declared.FileAnswer.{FileAnswer}
 use Rattle.file.specs.declared.FileAnswer.the-variants.{Accepted}
 use Rattle.file.specs.File.{File, fileHeader, dataBytes, writeFile}
-use Rattle.file.specs.Reading.{readFile, Reads}
+use Rattle.file.specs.Reading.{readFile, FilePromise}
 use Rattle.file.specs.Damage.{FileDamaged}
 
 -- What the writer's parameters are as declared: the file's type is a byte, addresses are 16-bit numbers, name and data are bytes.
@@ -33,7 +33,7 @@ pub record Enough (f : File) (h b : List ℕ) : Type 0 where
   pub bytes : dataBytes (f .fields) ≤ length b
 
 -- What the reader returns, r with h′ and b′ in the buffers that held h and b, is the file that was written.
-pub record Returned (f : File) (strip h b : List ℕ) (r : FileAnswer) (h′ b′ : List ℕ) : Type 0 where
+pub record FileReturned (f : File) (strip h b : List ℕ) (r : FileAnswer) (h′ b′ : List ℕ) : Type 0 where
   -- the type and both addresses are those lent to the writer; the end is 61 less than the strip's length
   pub answer : r ≡ Accepted (record { fields = f .fields; stop = length strip - 61 })
   -- the header buffer begins with the header; its bytes 5 to 191 are the name lent, filled with $20
@@ -58,12 +58,12 @@ Differ f g = SameFile f g → ⊥
 -- Demand 3.
 pub record Demand3 : Type 0 where
   -- For every file and leaders that the writer accepts, every strip within the damage, and all such room: a reader that keeps its
-  -- contract, `Reads`, from place 0 on returns that file.
+  -- contract, `FilePromise`, from place 0 on returns that file.
   pub returned : (f : File) (out : List ℕ) (count : ℕ) (out′ : List ℕ) → Sent f out count out′
       → (strip : List ℕ) → FileDamaged fixed f count strip
       → (h b : List ℕ) → Enough f h b
-      → (r : FileAnswer) (h′ b′ : List ℕ) → Reads (readFile (classes fixed strip) (length h) (length b) 0) h b r h′ b′
-      → Returned f strip h b r h′ b′
+      → (r : FileAnswer) (h′ b′ : List ℕ) → FilePromise (readFile (classes fixed strip) (length h) (length b) 0) h b r h′ b′
+      → FileReturned f strip h b r h′ b′
   -- No strip lies within the damage of two files that differ.
   pub apart : (f g : File) (out other : List ℕ) (count count′ : ℕ) (out′ other′ : List ℕ) → Sent f out count out′ → Sent g other count′ other′
       → Differ f g → (strip : List ℕ) → FileDamaged fixed f count strip → FileDamaged fixed g count′ strip → ⊥

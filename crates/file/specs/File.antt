@@ -4,8 +4,8 @@ use mathlib.Core.Bool.{Bool, cond, not, _||_}
 use mathlib.Core.List.{List, _++_}
 use lib.Dec.{eqb, leb, ltb}
 use lib.ListN.{length}
-use Rattle.refusal.specs.declared.Reason.the-variants.{WrongSize, NoRoom, WrongType, WrongAddresses, WrongLeader}
-use Rattle.refusal.specs.Refusal.{Outcome, accepted, refuse, inBlock}
+use Rattle.refusal.specs.declared.Reason.the-variants.{WrongSize, WrongType, WrongAddresses, WrongLeader}
+use Rattle.refusal.specs.Outcome.{Outcome, accepted, refuse, ifRoom, andThen, ofBlock}
 use Rattle.block.specs.Block.{blockPulses, wrongLeader}
 use Rattle.header.specs.declared.Fields.{Fields}
 use Rattle.header.specs.Header.{headerBytes, wrongName}
@@ -53,20 +53,31 @@ wrongAddresses f = leb (f .end) (f .start) || ltb (f .start + 8192) (f .end)
 abbrev pub dataBytes : Fields → ℕ
 dataBytes f = f .end - f .start
 
+-- how many bytes the data block of a program file has: refusals 8 and 9 in this order, else end minus start
+unfoldable pub measureData : Fields → Outcome ℕ
+measureData f =
+    cond (notProgram (f .kind)) (refuse WrongType 0)
+    (cond (wrongAddresses f) (refuse WrongAddresses 0)
+    (accepted (dataBytes f)))
+
 -- ---- The writer
 
 -- the two blocks into `room` places: refusal 14 for block 0, then for block 1, then 2
 unfoldable pub writeBlocks : (room k₀ : ℕ) (header : List ℕ) (k₁ : ℕ) (bytes : List ℕ) → Outcome (List ℕ)
 writeBlocks room k₀ header k₁ bytes =
     cond (wrongLeader k₀) (refuse WrongLeader 0)
-    (cond (wrongLeader k₁) (inBlock 1 (refuse WrongLeader 0))
-    (cond (ltb room (length (twoBlocks k₀ header k₁ bytes))) (refuse NoRoom 0)
-    (accepted (twoBlocks k₀ header k₁ bytes))))
+    (cond (wrongLeader k₁) (ofBlock 1 (refuse WrongLeader 0))
+    (ifRoom room (length (twoBlocks k₀ header k₁ bytes)) (accepted (twoBlocks k₀ header k₁ bytes))))
+
+-- a program with this header into `room` places: refusals 8 and 9, 9 also where the number of bytes is wrong, then 14 and 2
+unfoldable pub writeProgram : (room : ℕ) (fields : Fields) (k₀ : ℕ) (header : List ℕ) (k₁ : ℕ) (bytes : List ℕ) → Outcome (List ℕ)
+writeProgram room fields k₀ header k₁ bytes =
+    andThen (measureData fields) (λ n.
+    cond (not (eqb n (length bytes))) (refuse WrongAddresses 0)
+    (writeBlocks room k₀ header k₁ bytes))
 
 -- what is written into `room` places: refusal 1 for the name, then 8, 9, 14 and 2, else the file
 unfoldable pub writeFile : (room : ℕ) → File → Outcome (List ℕ)
 writeFile room f =
     cond (wrongName (length (f .name))) (refuse WrongSize 0)
-    (cond (notProgram (f .fields .kind)) (refuse WrongType 0)
-    (cond (wrongAddresses (f .fields) || not (eqb (dataBytes (f .fields)) (length (f .bytes)))) (refuse WrongAddresses 0)
-    (writeBlocks room (f .leader₀) (fileHeader f) (f .leader₁) (f .bytes))))
+    (writeProgram room (f .fields) (f .leader₀) (fileHeader f) (f .leader₁) (f .bytes))

@@ -1,19 +1,15 @@
 -- Reading a program file (document 01, 'Headers and program files').
 use Prim.Native.Nat.{ℕ}
-use mathlib.Core.Path.{_≡_}
-use mathlib.Core.Bool.{cond, _||_}
 use mathlib.Core.List.{List}
-use lib.Dec.{ltb}
-use Rattle.lists.specs.Buffer.{putAt}
-use Rattle.refusal.specs.declared.Reason.the-variants.{NoRoom, WrongType, WrongAddresses}
-use Rattle.refusal.specs.Refusal.{Outcome, accepted, refuse, told, mapped, inBlock, andThen, Fills, Promise}
+use Rattle.refusal.specs.Outcome.{Outcome, accepted, refusedWith, ifRoom, mapped, ofBlock, andThen}
+use Rattle.refusal.specs.Promise.{Answers, Fills, itself}
 use Rattle.pulse.specs.declared.Class.{Class}
 use Rattle.block.specs.Reading.{BlockRead, readFrom}
 use Rattle.header.specs.Header.{fieldsOf}
 use Rattle.file.specs.declared.Loaded.{Loaded}
 use Rattle.file.specs.declared.FileAnswer.{FileAnswer}
 use Rattle.file.specs.declared.FileAnswer.the-variants.{Accepted, Refused}
-use Rattle.file.specs.File.{notProgram, wrongAddresses, dataBytes}
+use Rattle.file.specs.File.{measureData}
 
 -- what an accepted file gives: type, addresses and the end of the data block, which are answered; header and data, which are put
 pub record FileRead : Type 0 where
@@ -45,10 +41,10 @@ BlockReader = (from n : ℕ) → Outcome BlockRead
 -- what follows a header that was read: refusals 8, 9 and 2 in this order, then the data block from the header's end on, as block 1
 unfoldable pub readData : (read : BlockReader) (headerRoom dataRoom end : ℕ) (header : List ℕ) → Outcome FileRead
 readData read headerRoom dataRoom end header =
-    cond (notProgram (fieldsOf header .kind)) (refuse WrongType 0)
-    (cond (wrongAddresses (fieldsOf header)) (refuse WrongAddresses 0)
-    (cond (ltb headerRoom 192 || ltb dataRoom (dataBytes (fieldsOf header))) (refuse NoRoom 0)
-    (mapped (fileRead header) (inBlock 1 (read end (dataBytes (fieldsOf header)))))))
+    andThen (measureData (fieldsOf header)) (λ n.
+    ifRoom headerRoom 192
+    (ifRoom dataRoom n
+    (mapped (fileRead header) (ofBlock 1 (read end n)))))
 
 -- a header from a place on, then what follows it
 unfoldable pub readFileBy : (read : BlockReader) (headerRoom dataRoom from : ℕ) → Outcome FileRead
@@ -61,8 +57,8 @@ readFile cs = readFileBy (readFrom cs)
 -- what the reader answers
 abbrev pub fileAnswer : FileAnswer → Outcome Loaded
 fileAnswer (Accepted loaded) = accepted loaded
-fileAnswer (Refused r) = told r
+fileAnswer (Refused r) = refusedWith r
 
 -- what a reader promises: it answers r and leaves h′ and b′ in the buffers that held h and b, as the outcome says
-abbrev pub Reads : (o : Outcome FileRead) (h b : List ℕ) (r : FileAnswer) (h′ b′ : List ℕ) → Type 0
-Reads o h b r h′ b′ = Promise (mapped loadedOf) (λ given. Fills headerOf h h′ given × Fills bytesOf b b′ given) o (fileAnswer r)
+abbrev pub FilePromise : (o : Outcome FileRead) (h b : List ℕ) (r : FileAnswer) (h′ b′ : List ℕ) → Type 0
+FilePromise o h b r h′ b′ = Answers itself loadedOf o (fileAnswer r) × (Fills headerOf o h h′ × Fills bytesOf o b b′)

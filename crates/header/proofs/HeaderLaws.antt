@@ -1,20 +1,24 @@
 -- Laws of headers: how long they are, that unpacking undoes packing, and the shown name in words.
-use Prim.Native.Nat.{ℕ, zero, suc, _+_, _-_, _*_, _/_, _%_, _≤_, _<_}
+use Prim.Native.Nat.{ℕ, zero, suc, _+_, _-_, _/_, _%_, _≤_, _<_}
 use native.Mathlib.Nat.{zero-add}
 use native.Mathlib.Decide.{decLt, ℕ-discrete}
 use native.Mathlib.Omega.{arith}
 use mathlib.Core.Path.{_≡_, refl, sym, ap, _∙_}
-use mathlib.Core.Bool.{Bool, true, false, cond}
-use mathlib.Core.List.{List, _++_}
-use borrow.Author.Tests.{eqb-true, eqb-false}
+use mathlib.Core.Bool.{Bool, true, false, cond, not}
+use mathlib.Core.List.{List, [], _∷_, _++_}
+use borrow.Author.Tests.{eqb-true, eqb-false, not-false}
 use lib.Dec.{eqb, lit<}
-use lib.ListN.{length, getD, replicate, length-take, length-append, length-replicate, getD-replicate, List·getD-append, List·getD-eq-default}
+use lib.ListN.{length, getD, replicate, length-take, length-drop, length-append, length-replicate, getD-replicate, List·getD-append, List·getD-eq-default}
 use lib.Seq.{ext-getD, getD-append-add, take-all}
 use Rattle.lists.specs.Places.{part, Below}
+use Rattle.lists.specs.Text.{fromLow, lowFirst}
 use Rattle.lists.proofs.PlaceLaws.{length-tabulate, getD-tabulate, getD-within}
-use Rattle.refusal.specs.Refusal.{Outcome, refused, accepted, mapped, puts}
+use Rattle.refusal.specs.declared.Reason.the-variants.{WrongSize}
+use Rattle.refusal.specs.Refusal.{refusalAt}
+use Rattle.refusal.specs.Outcome.{Outcome, refused, accepted, mapped}
+use Rattle.refusal.proofs.OutcomeLaws.{cond-accepted}
 use Rattle.header.specs.declared.Fields.{Fields}
-use Rattle.header.specs.Header.{filled, headerBytes, fieldsOf, unpackHeader, shownCount, shownName}
+use Rattle.header.specs.Header.{filled, headerBytes, fieldsOf, unpackHeader, shownCount, shownSpan, handed, shownName}
 
 -- ---- filled
 
@@ -55,31 +59,41 @@ module _ (name : List ℕ) where
 
 -- ---- headerBytes
 
+word-back : (w : ℕ) → w < 65536 → fromLow (w % 256 ∷ w / 256 % 256 ∷ []) ≡ w
+unfolding fromLow
+word-back w h = omega arith
+
 module _ (f : Fields) (name : List ℕ) where
   pub length-header : length (headerBytes f name) ≡ 192
-  unfolding headerBytes
+  unfolding headerBytes lowFirst
   length-header = ap (λ n. suc (suc (suc (suc (suc n))))) (length-filled name)
 
   -- unpacking undoes packing
-  pub fields-header : fieldsOf (headerBytes f name) ≡ f
-  unfolding fieldsOf headerBytes
-  fields-header =
-      let word : (w : ℕ) → w % 256 + 256 * (w / 256) ≡ w = λ w. omega arith in
-      rw (word (f .start), word (f .end))
+  pub fields-header : f .start < 65536 → f .end < 65536 → fieldsOf (headerBytes f name) ≡ f
+  unfolding fieldsOf headerBytes lowFirst
+  fields-header start end = rw (word-back (f .start) start, word-back (f .end) end)
 
   -- bytes 5 to 191 are the name, filled
   pub header-name : part (headerBytes f name) 5 187 ≡ filled name
-  unfolding headerBytes
+  unfolding headerBytes lowFirst
   header-name = take-all 187 (filled name) (omega (arith, length-filled name))
 
-  pub below-header : f .kind < 256 → f .start < 65536 → f .end < 65536 → Below 256 name → Below 256 (headerBytes f name)
-  unfolding headerBytes
-  below-header kind start end below zero = kind
-  below-header kind start end below (suc zero) = omega arith
-  below-header kind start end below (suc (suc zero)) = omega arith
-  below-header kind start end below (suc (suc (suc zero))) = omega arith
-  below-header kind start end below (suc (suc (suc (suc zero)))) = omega arith
-  below-header kind start end below (suc (suc (suc (suc (suc i))))) = below-filled name below i
+  pub below-header : f .kind < 256 → Below 256 name → Below 256 (headerBytes f name)
+  unfolding headerBytes lowFirst
+  below-header kind below zero = kind
+  below-header kind below (suc zero) = omega arith
+  below-header kind below (suc (suc zero)) = omega arith
+  below-header kind below (suc (suc (suc zero))) = omega arith
+  below-header kind below (suc (suc (suc (suc zero)))) = omega arith
+  below-header kind below (suc (suc (suc (suc (suc i))))) = below-filled name below i
+
+-- ---- unpackHeader
+
+pub unpackHeader-long : (header : List ℕ) {f : Fields} → unpackHeader header ≡ accepted f → length header ≡ 192
+unfolding unpackHeader
+unpackHeader-long h {f} e =
+    let whole = eqb (length h) 192 in
+    eqb-true (length h) 192 (not-false whole (cond-accepted (not whole) (refusalAt WrongSize 0) _ f e .0))
 
 -- ---- shownCount
 
@@ -89,10 +103,10 @@ pub record Shown (header : List ℕ) (most n : ℕ) : Type 0 where
   pub last : 0 < n → getD header (4 + n) 0 ≡ 0x20 → ⊥
   pub spaces : (i : ℕ) → n ≤ i → i < most → getD header (5 + i) 0 ≡ 0x20
 
-pub shown-count : (header : List ℕ) (most : ℕ) → Shown header most (shownCount header most)
+pub shownCount-shown : (header : List ℕ) (most : ℕ) → Shown header most (shownCount header most)
 unfolding shownCount
-shown-count h zero = record { high = omega arith; last = λ z. absurd (omega arith); spaces = λ i a b. absurd (omega arith) }
-shown-count h (suc n) = go (eqb (getD h (5 + n) 0) 0x20) refl (shown-count h n)
+shownCount-shown h zero = record { high = omega arith; last = λ z. absurd (omega arith); spaces = λ i a b. absurd (omega arith) }
+shownCount-shown h (suc n) = go (eqb (getD h (5 + n) 0) 0x20) refl (shownCount-shown h n)
   where
     go : (t : Bool) → eqb (getD h (5 + n) 0) 0x20 ≡ t → Shown h n (shownCount h n) → Shown h (suc n) (cond t (shownCount h n) (suc n))
     go true e r = record {
@@ -106,11 +120,21 @@ shown-count h (suc n) = go (eqb (getD h (5 + n) 0) 0x20) refl (shown-count h n)
       spaces = λ i a b. absurd (omega arith);
     }
 
--- at most sixteen bytes are shown
-pub width-shown : (header : List ℕ) → length (shownName header) ≤ 16
-unfolding shownName
-width-shown h = go (unpackHeader h)
+-- ---- shownName
+
+-- where unpacking accepts, it is as long as its span says
+pub length-shown : (header : List ℕ) {f : Fields} → unpackHeader header ≡ accepted f → length (shownName header) ≡ shownCount header 16
+unfolding shownName shownSpan
+length-shown h e =
+    let long = unpackHeader-long h e in
+    let most = shownCount-shown h 16 .high in
+    rw e (simp (length-take, length-drop) (omega arith))
+
+-- at most sixteen bytes
+pub shownName-width : (header : List ℕ) → length (shownName header) ≤ 16
+unfolding shownName shownSpan
+shownName-width h = rw length-take (let most = go (unpackHeader h) in omega arith)
   where
-    go : (o : Outcome Fields) → length (puts (mapped (λ _. part h 5 (shownCount h 16)) o)) ≤ 16
+    go : (o : Outcome Fields) → handed (mapped (λ _. record { offset = 5; length = shownCount h 16 }) o) .length ≤ 16
     go (refused why) = omega arith
-    go (accepted fields) = rw length-take (omega (arith, shown-count h 16 .high))
+    go (accepted fields) = shownCount-shown h 16 .high

@@ -1,23 +1,25 @@
 -- Packing: what the loops keep, and what the call comes to.
 use Prim.Native.Nat.{ℕ, _+_, _≤_, _<_}
 use native.Mathlib.Omega.{arith}
-use mathlib.Core.Path.{_≡_, refl, _∙_}
+use native.Mathlib.Numerals.{add-one}
+use mathlib.Core.Path.{_≡_, refl, ap, _∙_}
 use mathlib.Core.Bool.{true, false}
 use mathlib.Core.List.{List}
-use borrow.Author.Tests.{lt-ltb, le-ltb}
-use lib.ListN.{length, getD, set, replicate}
-use lib.Seq.{sets}
-use Rattle.lists.specs.Buffer.{putAt}
-use Rattle.lists.proofs.BufferLaws.{sets-last}
+use lib.ListN.{length, getD, set, length-set}
+use lib.Seq.{sets, length-sets}
+use Rattle.lists.specs.Text.{lowFirst}
+use Rattle.lists.proofs.BufferLaws.{put-room}
 use Rattle.lists.proofs.LoopLaws.{Putting, put-begun, put-one, put-done, tableLeft, table-begun, table-next, table-over}
 use Rattle.refusal.specs.declared.Reason.the-variants.{WrongSize, NoRoom, WrongType}
 use Rattle.refusal.specs.declared.Refusal.{Refusal}
 use Rattle.refusal.specs.declared.Put.the-variants.{Count, Refused}
-use Rattle.refusal.specs.Refusal.{refusalAt, Written}
-use Rattle.refusal.proofs.OutcomeLaws.{written-refused, written-accepted}
+use Rattle.refusal.specs.Refusal.{refusalAt}
+use Rattle.refusal.specs.Promise.{Written}
+use Rattle.refusal.proofs.PromiseLaws.{written-refused, written-accepted}
+use Rattle.refusal.proofs.OutcomeLaws.{ifRoom-noRoom, ifRoom-room}
 use Rattle.header.specs.declared.Fields.{Fields}
-use Rattle.header.specs.Header.{lowByte, highByte, filled, headerBytes, wrongName, wrongType, packHeader}
-use Rattle.header.proofs.HeaderLaws.{length-filled, length-header}
+use Rattle.header.specs.Header.{filled, headerBytes, wrongName, wrongType, packHeader}
+use Rattle.header.proofs.HeaderLaws.{length-header}
 
 -- ---- The name
 
@@ -36,32 +38,46 @@ module _ (before name : List ℕ) where
     pub name-done : 187 ≤ i → header ≡ sets before 5 (filled name)
     name-done h = put-done u (table-over (λ j. getD name j 0x20) 187 i h)
 
--- the five bytes before it are stored one by one
-pub header-put : (f : Fields) (name : List ℕ) {a b c d : ℕ} {header : List ℕ} → a ≡ lowByte (f .start) → b ≡ highByte (f .start) → c ≡ lowByte (f .end)
-    → d ≡ highByte (f .end) → header ≡ sets (set (set (set (set (set (replicate 192 0) 0 (f .kind)) 1 a) 2 b) 3 c) 4 d) 5 (filled name)
-    → header ≡ headerBytes f name
-unfolding headerBytes
-header-put f name {a} {b} {c} {d} p q r s e =
-    e ∙ sets-last (filled name) (set (set (set (set (set (replicate 192 0) 0 (f .kind)) 1 a) 2 b) 3 c) 4 d) 5 (rw length-filled) ∙ rw (p, q, r, s)
+-- ---- The whole header: the type, two words, the name
+
+pub word-put : (out : List ℕ) (at n : ℕ) {a b : ℕ} → a ≡ getD (lowFirst 4 n) 0 0 → b ≡ getD (lowFirst 4 n) 1 0
+    → set (set out at a) (at + 1) b ≡ sets out at (lowFirst 2 n)
+unfolding lowFirst
+word-put out at n p q = rw (p, q, add-one)
+
+-- what was stored has the output's length
+pub length-one : (out : List ℕ) (k at : ℕ) (xs : List ℕ) {one : List ℕ} → one ≡ sets (set out 0 k) at xs → length one ≡ length out
+length-one out k at xs e = ap length e ∙ length-sets (set out 0 k) at xs ∙ length-set out 0 k
+
+pub length-two : (one out : List ℕ) (at : ℕ) (xs : List ℕ) {two : List ℕ} → two ≡ sets one at xs → length one ≡ length out → length two ≡ length out
+length-two one out at xs e l = ap length e ∙ length-sets one at xs ∙ l
+
+pub header-put : (out : List ℕ) (f : Fields) (name : List ℕ) {one two three : List ℕ} → one ≡ sets (set out 0 (f .kind)) 1 (lowFirst 2 (f .start))
+    → two ≡ sets one 3 (lowFirst 2 (f .end)) → three ≡ sets two 5 (filled name) → three ≡ sets out 0 (headerBytes f name)
+unfolding headerBytes lowFirst
+header-put out f name e g h = h ∙ rw (g, e)
 
 -- ---- What packing comes to
 
 module _ (out : List ℕ) (f : Fields) (name : List ℕ) where
-  pub wrong-name : {r : Refusal} → wrongName (length name) ≡ true → r ≡ refusalAt WrongSize 0 → Written (packHeader (length out) f name) out (Refused r) out
+  pub packHeader-wrongSize : {r : Refusal} → wrongName (length name) ≡ true → r ≡ refusalAt WrongSize 0 → Written (packHeader (length out) f name) out (Refused r) out
   unfolding packHeader
-  wrong-name t = written-refused (packHeader (length out) f name) out (rw t)
+  packHeader-wrongSize t = written-refused (packHeader (length out) f name) out (rw t)
 
   module _ (right : wrongName (length name) ≡ false) where
-    pub wrong-type : {r : Refusal} → wrongType (f .kind) ≡ true → r ≡ refusalAt WrongType 0 → Written (packHeader (length out) f name) out (Refused r) out
+    pub packHeader-wrongType : {r : Refusal} → wrongType (f .kind) ≡ true → r ≡ refusalAt WrongType 0 → Written (packHeader (length out) f name) out (Refused r) out
     unfolding packHeader
-    wrong-type t = written-refused (packHeader (length out) f name) out (rw (right, t))
+    packHeader-wrongType t = written-refused (packHeader (length out) f name) out (rw (right, t))
 
     module _ (type : wrongType (f .kind) ≡ false) where
-      pub no-room : {r : Refusal} → length out < 192 → r ≡ refusalAt NoRoom 0 → Written (packHeader (length out) f name) out (Refused r) out
+      pub packHeader-noRoom : {r : Refusal} → length out < 192 → r ≡ refusalAt NoRoom 0 → Written (packHeader (length out) f name) out (Refused r) out
       unfolding packHeader
-      no-room h = written-refused (packHeader (length out) f name) out (rw (right, type, lt-ltb (length out) 192 h))
+      packHeader-noRoom h = written-refused (packHeader (length out) f name) out (rw (right, type, ifRoom-noRoom (length out) 192 _ h))
 
-      pub whole : {out′ header : List ℕ} → 192 ≤ length out → header ≡ headerBytes f name → out′ ≡ putAt out 0 header
+      pub packHeader-whole : {out′ : List ℕ} → 192 ≤ length out → out′ ≡ sets out 0 (headerBytes f name)
           → Written (packHeader (length out) f name) out (Count 192) out′
       unfolding packHeader
-      whole h e q = written-accepted (packHeader (length out) f name) out (rw (right, type, le-ltb (length out) 192 h)) (length-header f name) (rw e at q)
+      packHeader-whole h e =
+          let long = length-header f name in
+          written-accepted (packHeader (length out) f name) out (rw (right, type, ifRoom-room (length out) 192 _ h)) long
+          (e ∙ put-room out 0 (headerBytes f name) (omega arith))

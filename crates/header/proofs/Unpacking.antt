@@ -3,35 +3,35 @@ use Prim.Native.Nat.{ℕ, zero, suc, _+_, _-_, _<_}
 use native.Mathlib.Nat.{add-zero}
 use native.Mathlib.Omega.{arith}
 use mathlib.Core.Path.{_≡_, refl, sym, ap, _∙_}
-use mathlib.Core.Bool.{true, false, not}
+use mathlib.Core.Bool.{true, false}
 use mathlib.Core.List.{List, []}
-use borrow.Author.Tests.{eq-eqb, ne-eqb, eqb-true, not-false}
-use lib.Dec.{eqb}
+use borrow.Author.Tests.{eq-eqb, ne-eqb}
 use lib.ListN.{length, take, drop, getD}
 use Rattle.refusal.specs.declared.Reason.the-variants.{WrongSize, WrongType}
 use Rattle.refusal.specs.declared.Refusal.{Refusal}
-use Rattle.refusal.specs.Refusal.{accepted, refusalAt, told}
-use Rattle.refusal.proofs.OutcomeLaws.{accepted-next}
+use Rattle.refusal.specs.Refusal.{refusalAt}
+use Rattle.refusal.specs.Outcome.{accepted, refusedWith}
 use Rattle.header.specs.declared.Fields.{Fields}
 use Rattle.header.specs.declared.HeaderAnswer.{HeaderAnswer}
 use Rattle.header.specs.declared.HeaderAnswer.the-variants.{Accepted, Refused}
-use Rattle.header.specs.Header.{fieldsOf, wrongType, unpackHeader, headerAnswer, shownCount, shownName, shownPlace, pointerAt}
+use Rattle.header.specs.Header.{fieldsOf, wrongType, unpackHeader, headerAnswer, shownCount, shownSpan, shownName, shownPlace, pointerAt}
+use Rattle.header.proofs.HeaderLaws.{unpackHeader-long}
 
 -- ---- What unpacking comes to
 
 module _ (h : List ℕ) where
-  pub wrong-size : {r : Refusal} → (length h ≡ 192 → ⊥) → r ≡ refusalAt WrongSize 0 → told r ≡ unpackHeader h
+  pub unpackHeader-wrongSize : {r : Refusal} → (length h ≡ 192 → ⊥) → r ≡ refusalAt WrongSize 0 → refusedWith r ≡ unpackHeader h
   unfolding unpackHeader
-  wrong-size n q = rw (q, ne-eqb (length h) 192 n)
+  unpackHeader-wrongSize n q = rw (q, ne-eqb (length h) 192 n)
 
   module _ (long : length h ≡ 192) where
-    pub unknown-type : {r : Refusal} → wrongType (getD h 0 0) ≡ true → r ≡ refusalAt WrongType 0 → told r ≡ unpackHeader h
+    pub unpackHeader-wrongType : {r : Refusal} → wrongType (getD h 0 0) ≡ true → r ≡ refusalAt WrongType 0 → refusedWith r ≡ unpackHeader h
     unfolding unpackHeader
-    unknown-type t q = rw (q, eq-eqb (length h) 192 long, t)
+    unpackHeader-wrongType t q = rw (q, eq-eqb (length h) 192 long, t)
 
-    pub unpacked : {f : Fields} → wrongType (getD h 0 0) ≡ false → f ≡ fieldsOf h → accepted f ≡ unpackHeader h
+    pub unpackHeader-accepted : {f : Fields} → wrongType (getD h 0 0) ≡ false → f ≡ fieldsOf h → accepted f ≡ unpackHeader h
     unfolding unpackHeader
-    unpacked t q = rw (q, eq-eqb (length h) 192 long, t)
+    unpackHeader-accepted t q = rw (q, eq-eqb (length h) 192 long, t)
 
 -- ---- The shown name
 
@@ -51,18 +51,25 @@ shown-here h zero z e = absurd (omega arith)
 shown-here h (suc n) z e = rw (ne-eqb (getD h (5 + n) 0) 0x20 (λ q. e (sym (shown-at h n) ∙ q)))
 
 module _ (h : List ℕ) {a : HeaderAnswer} (e : headerAnswer a ≡ unpackHeader h) where
-  pub shown-none : {r : Refusal} → a ≡ Refused r → (p : ℕ × ℕ) → ([] ≡ shownName h) × (p ≡ pointerAt p (shownPlace h))
+  span-none : {r : Refusal} → a ≡ Refused r → shownSpan h ≡ refusedWith r
+  unfolding shownSpan
+  span-none q = rw (← e, q)
+
+  pub shownName-refused : {r : Refusal} → a ≡ Refused r → (p : ℕ × ℕ) → ([] ≡ shownName h) × (p ≡ pointerAt p (shownPlace h))
   unfolding shownName shownPlace
-  shown-none q p = rw (← e, q) (refl, ap (λ k. (p .0, k)) (sym (add-zero (p .1))))
+  shownName-refused q p = rw (span-none q, shownPlace) (refl, ap (λ k. (p .0, k)) (sym (add-zero (p .1))))
 
   module _ {f : Fields} (q : a ≡ Accepted f) where
-    pub shown-long : length h ≡ 192
-    unfolding unpackHeader
-    shown-long = eqb-true (length h) 192 (not-false (eqb (length h) 192) (accepted-next (not (eqb (length h) 192)) (refusalAt WrongSize 0) _ f (sym e ∙ ap headerAnswer q) .0))
+    pub shownName-long : length h ≡ 192
+    shownName-long = unpackHeader-long h (sym e ∙ ap headerAnswer q)
 
-    pub shown-some : {n : ℕ} → n ≡ shownCount h 16 → (p : ℕ × ℕ) → (take (5 + n - 5) (drop 5 h) ≡ shownName h) × ((p .0, 5 + p .1) ≡ pointerAt p (shownPlace h))
+    span-some : shownSpan h ≡ accepted (record { offset = 5; length = shownCount h 16 })
+    unfolding shownSpan
+    span-some = rw (← e, q)
+
+    pub shownName-accepted : {n : ℕ} → n ≡ shownCount h 16 → (p : ℕ × ℕ) → (take (5 + n - 5) (drop 5 h) ≡ shownName h) × ((p .0, 5 + p .1) ≡ pointerAt p (shownPlace h))
     unfolding shownName shownPlace
-    shown-some {n} s p =
+    shownName-accepted {n} s p =
         let z : 5 + n - 5 ≡ n = omega arith in
         let c : 5 + p .1 ≡ p .1 + 5 = omega arith in
-        rw (← e, q) (rw (z, s), ap (λ k. (p .0, k)) c)
+        rw (span-some, shownPlace) (rw (z, s), ap (λ k. (p .0, k)) c)

@@ -1,24 +1,18 @@
 -- Headers (document 01, 'Headers and program files').
-use Prim.Native.Nat.{ℕ, zero, suc, _+_, _*_, _/_, _%_}
+use Prim.Native.Nat.{ℕ, zero, suc, _+_}
 use mathlib.Core.Bool.{Bool, cond, not, _||_}
-use mathlib.Core.List.{List, _∷_}
+use mathlib.Core.List.{List, _∷_, _++_}
 use lib.Dec.{eqb, ltb}
 use lib.ListN.{length, getD}
 use Rattle.lists.specs.Places.{tabulate, part}
-use Rattle.refusal.specs.declared.Reason.the-variants.{WrongSize, NoRoom, WrongType}
-use Rattle.refusal.specs.Refusal.{Outcome, refused, accepted, refuse, told, mapped, puts}
+use Rattle.lists.specs.Text.{lowFirst, fromLow}
+use Rattle.refusal.specs.declared.Reason.the-variants.{WrongSize, WrongType}
+use Rattle.refusal.specs.Outcome.{Outcome, refused, accepted, refuse, refusedWith, ifRoom, mapped}
 use Rattle.header.specs.declared.Fields.{Fields}
 use Rattle.header.specs.declared.HeaderAnswer.{HeaderAnswer}
 use Rattle.header.specs.declared.HeaderAnswer.the-variants.{Accepted, Refused}
 
 -- ---- The layout
-
--- an address is a 16-bit number, low byte first
-abbrev pub lowByte : (word : ℕ) → ℕ
-lowByte word = word % 256
-
-abbrev pub highByte : (word : ℕ) → ℕ
-highByte word = word / 256
 
 -- 187 bytes of name; a shorter name is filled with $20. Of a longer one, which packing and writing refuse, it is the first 187.
 unfoldable pub filled : (name : List ℕ) → List ℕ
@@ -26,7 +20,7 @@ filled name = tabulate (λ i. getD name i 0x20) 187 0
 
 -- type; start low, high; end low, high; name
 unfoldable pub headerBytes : (fields : Fields) (name : List ℕ) → List ℕ
-headerBytes f name = f .kind ∷ lowByte (f .start) ∷ highByte (f .start) ∷ lowByte (f .end) ∷ highByte (f .end) ∷ filled name
+headerBytes f name = f .kind ∷ (lowFirst 2 (f .start) ++ (lowFirst 2 (f .end) ++ filled name))
 
 -- ---- Packing
 
@@ -43,13 +37,13 @@ unfoldable pub packHeader : (room : ℕ) (fields : Fields) (name : List ℕ) →
 packHeader room f name =
     cond (wrongName (length name)) (refuse WrongSize 0)
     (cond (wrongType (f .kind)) (refuse WrongType 0)
-    (cond (ltb room 192) (refuse NoRoom 0)
-    (accepted (headerBytes f name))))
+    (ifRoom room 192 (accepted (headerBytes f name))))
 
 -- ---- Unpacking
 
+-- an address is a 16-bit number, low byte first
 abbrev pub wordAt : (header : List ℕ) (at : ℕ) → ℕ
-wordAt h at = getD h at 0 + 256 * getD h (at + 1) 0
+wordAt h at = fromLow (part h at 2)
 
 -- type and both addresses
 unfoldable pub fieldsOf : (header : List ℕ) → Fields
@@ -65,7 +59,7 @@ unpackHeader h =
 -- what unpacking answers
 abbrev pub headerAnswer : HeaderAnswer → Outcome Fields
 headerAnswer (Accepted fields) = accepted fields
-headerAnswer (Refused r) = told r
+headerAnswer (Refused r) = refusedWith r
 
 -- ---- The shown name
 
@@ -74,17 +68,27 @@ unfoldable pub shownCount : (header : List ℕ) (n : ℕ) → ℕ
 shownCount h zero = zero
 shownCount h (suc n) = cond (eqb (getD h (5 + n) 0) 0x20) (shownCount h n) (suc n)
 
--- the part of the header that holds the first 16 without those spaces; empty where unpacking refuses
+-- a part of a header: where it begins, and how many bytes it has
+pub record Span : Type 0 where
+  pub offset : ℕ
+  pub length : ℕ
+
+-- where the shown name stands: the first 16 bytes of the name without those spaces; refused where unpacking is
+unfoldable pub shownSpan : (header : List ℕ) → Outcome Span
+shownSpan h = mapped (λ _. record { offset = 5; length = shownCount h 16 }) (unpackHeader h)
+
+-- the part that is handed back; by a refusal it is empty, at the header's beginning
+abbrev pub handed : Outcome Span → Span
+handed (refused why) = record { offset = 0; length = 0 }
+handed (accepted span) = span
+
+-- its bytes
 unfoldable pub shownName : (header : List ℕ) → List ℕ
-shownName h = puts (mapped (λ _. part h 5 (shownCount h 16)) (unpackHeader h))
+shownName h = part h (handed (shownSpan h) .offset) (handed (shownSpan h) .length)
 
-abbrev pub nameAt : Outcome Fields → ℕ
-nameAt (refused why) = 0
-nameAt (accepted fields) = 5
-
--- the place of the header where that part begins: byte 5, or the header's own beginning where unpacking refuses
+-- the place of the header where it begins
 unfoldable pub shownPlace : (header : List ℕ) → ℕ
-shownPlace h = nameAt (unpackHeader h)
+shownPlace h = handed (shownSpan h) .offset
 
 -- the pointer k bytes on: a pointer is a block of memory and the place of a byte in it
 abbrev pub pointerAt : ℕ × ℕ → ℕ → ℕ × ℕ

@@ -11,9 +11,9 @@ ghost use Prim.Native.Nat.{_+_, _≤_};
 ghost use mathlib.Core.Path.{_≡_};
 ghost use lib.ListN.{length, getD};
 ghost use lib.Seq.{sets};
-ghost use Rattle.lists.specs.Buffer.{putAt};
-ghost use Rattle.refusal.specs.Refusal.{Written};
-ghost use Rattle.header.specs.Header.{lowByte, highByte, filled, headerBytes, wordAt, fieldsOf, wrongName, wrongType, packHeader, unpackHeader, headerAnswer, shownCount, shownName, shownPlace, pointerAt};
+ghost use Rattle.lists.specs.Text.{lowFirst};
+ghost use Rattle.refusal.specs.Promise.{Written};
+ghost use Rattle.header.specs.Header.{filled, headerBytes, wordAt, fieldsOf, wrongName, wrongType, packHeader, unpackHeader, headerAnswer, shownCount, shownName, shownPlace, pointerAt};
 
 pub const HEADER_BYTES: usize = 192;
 
@@ -37,8 +37,8 @@ const LEAST_TYPE: u8 = 1;
 
 const MOST_TYPE: u8 = 5;
 
-// How many values a byte has: what the high byte of an address counts.
-const BYTE_VALUES: u16 = 256;
+// An address has two bytes, the low one first.
+const WORD_BYTES: usize = 2;
 
 // What a header says beside the name. The kind is what document 01 calls the type.
 pub struct Fields {
@@ -67,7 +67,7 @@ pub fn pack_header(fields: Fields, name: &[u8], out: &mut [u8]) -> Put
     if out.len() < HEADER_BYTES {
         return Put::Refused(refusal::at(Reason::NoRoom, 0));
     }
-    put_header(packed(fields, name), out);
+    put_header(fields, name, out);
     Put::Count(HEADER_BYTES)
 }
 
@@ -81,7 +81,7 @@ pub fn unpack_header(header: &[u8]) -> HeaderAnswer
     if wrong_type(header[TYPE_AT]) {
         return HeaderAnswer::Refused(refusal::at(Reason::WrongType, 0));
     }
-    HeaderAnswer::Accepted(fields_in(header))
+    HeaderAnswer::Accepted(fields_of(header))
 }
 
 // The shown name, as the part of the header that holds it: the first 16 bytes of the name without the spaces at their end. It is
@@ -97,36 +97,7 @@ pub fn shown_name(header: &[u8]) -> &[u8]
     &header[NAME_AT..end]
 }
 
-// The bytes of a header. A name over 187 bytes is cut; `wrong_name` tells whether it is.
-pub fn packed(fields: Fields, name: &[u8]) -> [u8; HEADER_BYTES]
-    ensures { λ r. ⌜ r ≡ headerBytes fields (now (name .entry)) ⌝ }
-{
-    let mut header = [0u8; HEADER_BYTES];
-    header[TYPE_AT] = fields.kind;
-    header[START_AT] = low_byte(fields.start);
-    header[START_AT + 1] = high_byte(fields.start);
-    header[END_AT] = low_byte(fields.end);
-    header[END_AT + 1] = high_byte(fields.end);
-    put_name(&mut header, name);
-    header
-}
-
-// Type and addresses of a header, whatever they are.
-pub fn fields_of(header: [u8; HEADER_BYTES]) -> Fields
-    ensures { λ r. ⌜ r ≡ fieldsOf header ⌝ }
-{
-    fields_in(&header)
-}
-
-// Puts a header into a lent buffer; nothing where there is no room for it.
-pub fn put_header(header: [u8; HEADER_BYTES], out: &mut [u8])
-    ensures { λ _. ⌜ now (out .exit) ≡ putAt (now (out .entry)) 0 header ⌝ }
-{
-    lists::put_bytes(&header, out, 0)
-}
-
-// Whether a name of this many bytes is too long.
-pub fn wrong_name(n: usize) -> bool
+fn wrong_name(n: usize) -> bool
     ensures { λ r. ⌜ r ≡ wrongName n ⌝ }
 {
     NAME_BYTES < n
@@ -138,16 +109,24 @@ fn wrong_type(kind: u8) -> bool
     (kind < LEAST_TYPE) | (MOST_TYPE < kind)
 }
 
-fn low_byte(word: u16) -> u8
-    ensures { λ r. ⌜ r ≡ lowByte word ⌝ }
+// Puts the bytes of a header in front.
+fn put_header(fields: Fields, name: &[u8], out: &mut [u8])
+    requires { ⌜ 192 ≤ length (now out) ⌝ }
+    ensures { λ _. ⌜ now (out .exit) ≡ sets (now (out .entry)) 0 (headerBytes fields (now (name .entry))) ⌝ }
 {
-    (word % BYTE_VALUES) as u8
+    out[TYPE_AT] = fields.kind;
+    put_word(fields.start, out, START_AT);
+    put_word(fields.end, out, END_AT);
+    put_name(name, out);
 }
 
-fn high_byte(word: u16) -> u8
-    ensures { λ r. ⌜ r ≡ highByte word ⌝ }
+fn put_word(word: u16, out: &mut [u8], at: usize)
+    requires { ⌜ at + 2 ≤ length (now out) ⌝ }
+    ensures { λ _. ⌜ now (out .exit) ≡ sets (now (out .entry)) at (lowFirst 2 word) ⌝ }
 {
-    (word / BYTE_VALUES) as u8
+    let n = word as u32;
+    out[at] = lists::low_byte(n, 0);
+    out[at + 1] = lists::low_byte(n, 1);
 }
 
 // Byte i of a name, a space past its end.
@@ -157,18 +136,18 @@ fn name_byte(name: &[u8], i: usize) -> u8
     if i < name.len() { name[i] } else { SPACE }
 }
 
-fn put_name(header: &mut [u8], name: &[u8])
-    requires { ⌜ 192 ≤ length (now header) ⌝ }
-    ensures { λ _. ⌜ now (header .exit) ≡ sets (now (header .entry)) 5 (filled (now (name .entry))) ⌝ }
+fn put_name(name: &[u8], out: &mut [u8])
+    requires { ⌜ 192 ≤ length (now out) ⌝ }
+    ensures { λ _. ⌜ now (out .exit) ≡ sets (now (out .entry)) 5 (filled (now (name .entry))) ⌝ }
 {
     let mut i: usize = 0;
     while i < NAME_BYTES {
-        header[NAME_AT + i] = name_byte(name, i);
+        out[NAME_AT + i] = name_byte(name, i);
         i = i + 1;
     }
 }
 
-fn fields_in(header: &[u8]) -> Fields
+fn fields_of(header: &[u8]) -> Fields
     requires { ⌜ 5 ≤ length (now header) ⌝ }
     ensures { λ r. ⌜ r ≡ fieldsOf (now (header .entry)) ⌝ }
 {
@@ -183,7 +162,8 @@ fn word_at(header: &[u8], at: usize) -> u16
     requires { ⌜ at + 2 ≤ length (now header) ⌝ }
     ensures { λ r. ⌜ r ≡ wordAt (now (header .entry)) at ⌝ }
 {
-    header[at] as u16 + BYTE_VALUES * (header[at + 1] as u16)
+    let end = at + WORD_BYTES;
+    lists::from_low(&header[at..end]) as u16
 }
 
 fn shown_count(header: &[u8]) -> usize

@@ -9,23 +9,34 @@ use mathlib.Core.Bool.{Bool, true, false, cond}
 use mathlib.Core.List.{List, [], _∷_, _++_, map}
 use borrow.Author.Tests.{lt-ltb, le-ltb}
 use lib.Dec.{ltb}
-use lib.ListN.{length, drop, getD, set, length-append, length-map, drop-of-length-le}
-use lib.Seq.{length-sets, drop-cons}
+use lib.ListN.{length, take, drop, getD, set, length-append, length-map, length-take, length-drop, drop-of-length-le}
+use lib.Seq.{sets, length-sets, drop-cons}
+use Rattle.lists.specs.Places.{part}
 use Rattle.lists.specs.Text.{ascii}
-use Rattle.lists.proofs.BufferLaws.{sets-append}
+use Rattle.lists.proofs.BufferLaws.{put-copied, sets-lent, sets-append}
 use Rattle.lists.proofs.LoopLaws.{Putting, put-begun, put-one, put-done}
 use Rattle.refusal.specs.declared.Refusal.{Refusal}
-use Rattle.refusal.specs.Refusal.{numberOf, Outcome, refused, accepted}
+use Rattle.refusal.specs.Refusal.{numberOf}
+use Rattle.refusal.specs.Outcome.{Outcome, refused, accepted}
 use Rattle.header.specs.declared.Fields.{Fields}
 use Rattle.header.specs.Header.{shownName}
-use Rattle.header.proofs.HeaderLaws.{width-shown}
+use Rattle.header.proofs.HeaderLaws.{shownName-width}
 use Rattle.file.specs.declared.Loaded.{Loaded}
 use Rattle.file.specs.declared.FileAnswer.{FileAnswer}
 use Rattle.file.specs.declared.FileAnswer.the-variants.{Accepted, Refused}
 use Rattle.file.specs.File.{dataBytes}
 use Rattle.file.specs.Reading.{FileRead}
 use Rattle.listing.specs.Listing.{digit, digits, decimal, hexadecimal, field, newline, printed, fileLine, refusalLine, line, fileIn, heading, listing}
-use Rattle.listing.specs.Lines.{Appended, answerText}
+use Rattle.listing.specs.private.Lines.{Appended, answerText}
+
+-- ---- Text that is copied into the part of a buffer from a place on
+
+pub text-put : (out : List ℕ) (at : ℕ) (text : List ℕ) {lent : List ℕ} → at + length text ≤ length out
+    → lent ≡ take (length text) text ++ drop (length text) (part out at (length out - at))
+    → take at out ++ (lent ++ drop (length out - at) (drop at out)) ≡ sets out at text
+text-put out at text h e =
+    let room : length text ≤ length (part out at (length out - at)) = simp (length-take, length-drop) (omega arith) in
+    sets-lent out text at h (put-copied (part out at (length out - at)) text room e)
 
 -- ---- Appended
 
@@ -132,18 +143,18 @@ address-put out at n p q r s =
 
 -- with those put, the characters of the bytes left give all of them
 module _ (before : List ℕ) (at : ℕ) (name : List ℕ) where
-  abbrev pub NamePut : List ℕ → ℕ → Type 0
-  NamePut out i = Putting before at (map printed name) out (at + i) (map printed (drop i name))
+  abbrev pub PrintedPut : List ℕ → ℕ → Type 0
+  PrintedPut out i = Putting before at (map printed name) out (at + i) (map printed (drop i name))
 
-  pub name-begun : NamePut before 0
-  name-begun = put-begun before at (at + 0) _ _ (add-zero at) refl
+  pub printed-begun : PrintedPut before 0
+  printed-begun = put-begun before at (at + 0) _ _ (add-zero at) refl
 
-  module _ {out : List ℕ} {i : ℕ} (u : NamePut out i) where
-    pub name-next : {b : ℕ} → i < length name → b ≡ printed (getD name i 0) → NamePut (set out (at + i) b) (i + 1)
-    name-next h e = rw e (put-one u (printed (getD name i 0)) _ (rw (drop-cons name i 0 h, add-one)) (omega arith))
+  module _ {out : List ℕ} {i : ℕ} (u : PrintedPut out i) where
+    pub printed-next : {b : ℕ} → i < length name → b ≡ printed (getD name i 0) → PrintedPut (set out (at + i) b) (i + 1)
+    printed-next h e = rw e (put-one u (printed (getD name i 0)) _ (rw (drop-cons name i 0 h, add-one)) (omega arith))
 
-    pub name-done : length name ≤ i → Appended before at (map printed name) (at + length name) out
-    name-done h = record { put = put-done u (rw (drop-of-length-le name {i = i} h)); stop = rw (length-map name printed) }
+    pub printed-done : length name ≤ i → Appended before at (map printed name) (at + length name) out
+    printed-done h = record { put = put-done u (rw (drop-of-length-le name {i = i} h)); stop = rw (length-map name printed) }
 
 -- ---- Lines
 
@@ -191,12 +202,12 @@ width-file f count name h =
 
 pub width-text : (a : FileAnswer) (header : List ℕ) → length (answerText a header) ≤ 97
 unfolding ascii
-width-text (Accepted l) header = simp length-append (omega (arith, width-file (l .fields) (dataBytes (l .fields)) (shownName header) (width-shown header)))
+width-text (Accepted l) header = simp length-append (omega (arith, width-file (l .fields) (dataBytes (l .fields)) (shownName header) (shownName-width header)))
 width-text (Refused r) header = simp length-append (omega (arith, width-refusal (numberOf (r .reason)) (r .block) (r .place)))
 
 width-line : (o : Outcome FileRead) → length (line o) ≤ 71
 width-line (refused why) = width-refusal (why .number) (why .block) (why .place)
-width-line (accepted f) = omega (arith, width-file (f .loaded .fields) (length (f .bytes)) (shownName (f .header)) (width-shown (f .header)))
+width-line (accepted f) = omega (arith, width-file (f .loaded .fields) (length (f .bytes)) (shownName (f .header)) (shownName-width (f .header)))
 
 -- every listing fits 97 bytes
 pub width-listing : (file : List ℕ) → length (listing file) ≤ 97

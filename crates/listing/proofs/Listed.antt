@@ -12,16 +12,20 @@ use Rattle.lists.specs.Buffer.{putAt, Counts}
 use Rattle.lists.proofs.BufferLaws.{length-put, part-put, put-room, put-whole}
 use Rattle.refusal.specs.declared.Reason.the-variants.{WrongSize}
 use Rattle.refusal.specs.declared.Refusal.{Refusal}
-use Rattle.refusal.specs.Refusal.{Outcome, accepted, refusalAt, told, mapped, andThen, puts, Fills, Promise}
-use Rattle.refusal.proofs.OutcomeLaws.{puts-refused, accepted-next, then-accepted, mapped-told, mapped-accepted}
+use Rattle.refusal.specs.Refusal.{refusalAt}
+use Rattle.refusal.specs.Outcome.{Outcome, accepted, refusedWith, mapped, andThen, puts}
+use Rattle.refusal.specs.Promise.{Answers, Fills, itself}
+use Rattle.refusal.proofs.OutcomeLaws.{cond-accepted, andThen-accepted, mapped-refused, mapped-accepted}
+use Rattle.refusal.proofs.PromiseLaws.{promise-refused}
 use Rattle.pulse.specs.Pulse.{fixed, classes}
 use Rattle.header.specs.Header.{shownName}
 use Rattle.file.specs.declared.Loaded.{Loaded}
 use Rattle.file.specs.declared.FileAnswer.{FileAnswer}
 use Rattle.file.specs.declared.FileAnswer.the-variants.{Accepted, Refused}
 use Rattle.file.specs.File.{dataBytes}
-use Rattle.file.specs.Reading.{FileRead, loadedOf, headerOf, readFile, fileAnswer, Reads}
-use Rattle.file.proofs.FileLaws.{Whole, file-whole}
+use Rattle.file.specs.Reading.{FileRead, loadedOf, headerOf, readFile, fileAnswer, FilePromise}
+use Rattle.file.proofs.ReaderLaws.{by-rules}
+use Rattle.file.proofs.FileLaws.{Whole, readFileBy-whole}
 use Rattle.tap.specs.declared.TapInfo.{TapInfo}
 use Rattle.tap.specs.declared.TapAnswer.{TapAnswer}
 use Rattle.tap.specs.declared.TapAnswer.the-variants.{Accepted as Held, Refused as NotHeld}
@@ -29,22 +33,22 @@ use Rattle.tap.specs.Reading.{Tap, infoOf, durationsOf, tapOf, readTap, tapAnsw
 use Rattle.tap.specs.Reading as tap
 use Rattle.tap.proofs.DataLaws.{read-enough, width-tap}
 use Rattle.listing.specs.Listing.{fileIn, fileLine, line, heading, listing}
-use Rattle.listing.specs.Lines.{Appended, answerLine, answerText}
+use Rattle.listing.specs.private.Lines.{Appended, answerLine, answerText}
 use Rattle.listing.proofs.LineLaws.{append-length}
 
 -- ---- Loading
 
 -- the answer, and the header that is kept
 abbrev pub Kept : (o : Outcome FileRead) (h : List ℕ) (r : FileAnswer) (h′ : List ℕ) → Type 0
-Kept o h r h′ = Promise (mapped loadedOf) (Fills headerOf h h′) o (fileAnswer r)
+Kept o h r h′ = Answers itself loadedOf o (fileAnswer r) × Fills headerOf o h h′
 
-kept-refused : (o : Outcome FileRead) (h : List ℕ) {r s : Refusal} → o ≡ told s → r ≡ s → Kept o h (Refused r) h
-kept-refused o h e q = rw (e, q) (refl, puts-refused h)
+kept-refused : (o : Outcome FileRead) (h : List ℕ) {r s : Refusal} → o ≡ refusedWith s → r ≡ s → Kept o h (Refused r) h
+kept-refused o h e q = promise-refused loadedOf headerOf o h e (ap refusedWith q)
 
 module _ (file h : List ℕ) where
-  pub too-long : {r : Refusal} → 16384 < length file → r ≡ refusalAt WrongSize 0 → Kept (fileIn file) h (Refused r) h
+  pub fileIn-wrongSize : {r : Refusal} → 16384 < length file → r ≡ refusalAt WrongSize 0 → Kept (fileIn file) h (Refused r) h
   unfolding fileIn
-  too-long l = kept-refused (fileIn file) h (rw (lt-ltb 16384 (length file) l))
+  fileIn-wrongSize l = kept-refused (fileIn file) h (rw (lt-ltb 16384 (length file) l))
 
   module _ (short : length file ≤ 16384) where
     in-tap : fileIn file ≡ andThen (tapOf file) (λ t. readFile (classes fixed (t .durations)) 192 8192 0)
@@ -54,10 +58,10 @@ module _ (file h : List ℕ) where
     enough : readTap 16364 file ≡ tapOf file
     enough = read-enough file 16364 (omega arith)
 
-    module _ {a : TapAnswer} {strip : List ℕ} (e : tap.Reads (readTap 16364 file) (replicate 16364 0) a strip) where
-      pub no-tape : {r : Refusal} → a ≡ NotHeld r → Kept (fileIn file) h (Refused r) h
-      no-tape {r} q =
-          let t : tapOf file ≡ told r = sym enough ∙ mapped-told infoOf (readTap 16364 file) r (sym (ap tapAnswer q) ∙ e .0) in
+    module _ {a : TapAnswer} {strip : List ℕ} (e : tap.TapPromise (readTap 16364 file) (replicate 16364 0) a strip) where
+      pub fileIn-noTape : {r : Refusal} → a ≡ NotHeld r → Kept (fileIn file) h (Refused r) h
+      fileIn-noTape {r} q =
+          let t : tapOf file ≡ refusedWith r = sym enough ∙ mapped-refused infoOf (readTap 16364 file) r (sym (ap tapAnswer q) ∙ e .0) in
           kept-refused (fileIn file) h {s = r} (in-tap ∙ ap (λ o. andThen o (λ t. readFile (classes fixed (t .durations)) 192 8192 0)) t) refl
 
       module _ {t : TapInfo} (q : a ≡ Held t) where
@@ -88,22 +92,22 @@ module _ (file h : List ℕ) where
         read-is : readFile (classes fixed (take (t .count) strip)) 192 8192 0 ≡ fileIn file
         read-is = rw front (sym (in-tap ∙ ap (λ o. andThen o (λ u. readFile (classes fixed (u .durations)) 192 8192 0)) (sym enough ∙ held .1)))
 
-        pub loaded : (r : FileAnswer) (b : List ℕ) {h′ b′ : List ℕ} → length h ≡ 192 → length b ≡ 8192
-            → Reads (readFile (classes fixed (take (t .count) strip)) (length h) (length b) 0) h b r h′ b′ → Kept (fileIn file) h r h′
-        loaded r b l m s = let s′ = rw (l, m, read-is) at s in (s′ .0, s′ .1 .0)
+        pub fileIn-read : (r : FileAnswer) (b : List ℕ) {h′ b′ : List ℕ} → length h ≡ 192 → length b ≡ 8192
+            → FilePromise (readFile (classes fixed (take (t .count) strip)) (length h) (length b) 0) h b r h′ b′ → Kept (fileIn file) h r h′
+        fileIn-read r b l m s = let s′ = rw (l, m, read-is) at s in (s′ .0, s′ .1 .0)
 
 -- ---- Listing
 
 file-in : (file : List ℕ) (f : FileRead) → fileIn file ≡ accepted f → Whole f
 unfolding fileIn
 file-in file f e =
-    let s = accepted-next (ltb 16384 (length file)) (refusalAt WrongSize 0) _ f e in
-    let t = then-accepted (tapOf file) (λ u. readFile (classes fixed (u .durations)) 192 8192 0) f (s .1) in
-    file-whole (classes fixed (t .0 .durations)) 192 8192 f 0 (t .2)
+    let s = cond-accepted (ltb 16384 (length file)) (refusalAt WrongSize 0) _ f e in
+    let t = andThen-accepted (tapOf file) (λ u. readFile (classes fixed (u .durations)) 192 8192 0) f (s .1) in
+    readFileBy-whole (by-rules (classes fixed (t .0 .durations)) .long) 192 8192 f 0 (t .2)
 
-line-told : (file h : List ℕ) → length h ≡ 192 → (a : FileAnswer) (h′ : List ℕ) → Kept (fileIn file) h a h′ → line (fileIn file) ≡ answerLine a h′
-line-told file h l (Refused r) h′ k = ap line (mapped-told loadedOf (fileIn file) r (k .0))
-line-told file h l (Accepted x) h′ k =
+line-answer : (file h : List ℕ) → length h ≡ 192 → (a : FileAnswer) (h′ : List ℕ) → Kept (fileIn file) h a h′ → line (fileIn file) ≡ answerLine a h′
+line-answer file h l (Refused r) h′ k = ap line (mapped-refused loadedOf (fileIn file) r (k .0))
+line-answer file h l (Accepted x) h′ k =
     let m = mapped-accepted loadedOf (fileIn file) (k .0) in
     let w = file-in file (m .0) (m .1) in
     let p : h′ ≡ m .0 .header = k .1 ∙ ap (λ o. putAt h 0 (puts (mapped headerOf o))) (m .1) ∙ put-whole h (m .0 .header) (w .header ∙ sym l) in
@@ -111,14 +115,14 @@ line-told file h l (Accepted x) h′ k =
     ∙ ap (λ (y : Loaded). fileLine (y .fields) (dataBytes (y .fields)) (shownName (m .0 .header))) (m .2)
     ∙ ap (λ n. fileLine (x .fields) (dataBytes (x .fields)) (shownName n)) (sym p)
 
-pub listing-told : (file h : List ℕ) → length h ≡ 192 → (a : FileAnswer) (h′ : List ℕ) → Kept (fileIn file) h a h′ → answerText a h′ ≡ listing file
+pub listing-answer : (file h : List ℕ) → length h ≡ 192 → (a : FileAnswer) (h′ : List ℕ) → Kept (fileIn file) h a h′ → answerText a h′ ≡ listing file
 unfolding listing
-listing-told file h l a h′ k = ap (λ xs. heading ++ xs) (sym (line-told file h l a h′ k))
+listing-answer file h l a h′ k = ap (λ xs. heading ++ xs) (sym (line-answer file h l a h′ k))
 
 -- what is put where there is room for every text
-pub listed : (file out : List ℕ) {n : ℕ} {text out′ : List ℕ} → text ≡ listing file → Appended out 0 text n out′ → length out ≡ 97 → length text ≤ 97
+pub listing-put : (file out : List ℕ) {n : ℕ} {text out′ : List ℕ} → text ≡ listing file → Appended out 0 text n out′ → length out ≡ 97 → length text ≤ 97
     → (n ≡ length (listing file)) × ((out′ ≡ putAt out 0 (listing file)) × Counts n out′)
-listed file out {n} {text} {out′} e a l w =
+listing-put file out {n} {text} {out′} e a l w =
     let s : n ≡ length text = a .stop ∙ zero-add (length text) in
     let p : out′ ≡ putAt out 0 text = a .put ∙ put-room out 0 text (omega arith) in
     let k : n ≤ length out′ = omega (arith, append-length a) in

@@ -8,7 +8,7 @@ use borrow.Author.Tests.{le-ltb}
 use lib.Dec.{lit≤}
 use lib.ListN.{length, take, getD, length-append, length-take, length-map, List·getD-map}
 use Rattle.lists.specs.Text.{lowFirst}
-use Rattle.refusal.specs.Refusal.{accepted}
+use Rattle.refusal.specs.Outcome.{accepted}
 use Rattle.pulse.specs.declared.Class.{Class}
 use Rattle.pulse.specs.declared.Class.the-variants.{Short, Medium, Long, Noise}
 use Rattle.pulse.specs.Pulse.{fixed, writtenAs, pulses}
@@ -18,12 +18,12 @@ use Rattle.header.proofs.HeaderLaws.{length-header}
 use Rattle.file.specs.File.{File, fileHeader, filePulses}
 use Rattle.file.specs.Damage.{FileDamaged}
 use Rattle.file.specs.Claim.{Sent}
-use Rattle.file.proofs.FileLaws.{Right as FileRight}
+use Rattle.file.proofs.FileLaws.{RightFile}
 use Rattle.file.proofs.Demand3.{asWritten, taken, readFile-damaged, sent-strip}
 use Rattle.tap.specs.Tap.{longForm, formOf, hasNoForm}
 use Rattle.tap.specs.Reading.{tapWith, tapOf}
-use Rattle.tap.specs.Claim.{Right}
-use Rattle.tap.proofs.RoundTrip.{tap-back}
+use Rattle.tap.specs.Claim.{Writable}
+use Rattle.tap.proofs.RoundTrip.{tapOf-written}
 use Rattle.listing.specs.Listing.{line, fileIn, heading, listing}
 use Rattle.listing.specs.Claim.{Printed}
 
@@ -41,14 +41,14 @@ pulse-form Medium = refl
 pulse-form Long = refl
 pulse-form Noise = refl
 
-pulses-right : (cs : List Class) → length cs ≤ 1048576 → Right 1 (pulses cs)
+pulses-right : (cs : List Class) → length cs ≤ 1048576 → Writable 1 (pulses cs)
 pulses-right cs h = record {
   few = rw (length-map cs writtenAs) h;
   old = lit≤ tt;
   forms = λ i l. rw (List·getD-map writtenAs cs i Noise) (pulse-form (getD cs i Noise));
 }
 
-file-right : (f : File) → FileRight f → Right 1 (filePulses f)
+file-right : (f : File) → RightFile f → Writable 1 (filePulses f)
 file-right f r =
     let a = length-block (f .leader₀) (fileHeader f) in
     let b = length-block (f .leader₁) (f .bytes) in
@@ -61,8 +61,8 @@ file-right f r =
 pub printed-as-written : Printed
 unfolding listing
 printed-as-written = record {
-  told = λ f out count out′ sent strip d version tape n tape′ w small.
+  listed = λ f out count out′ sent strip d version tape n tape′ w small.
       let l = length-take n tape′ in
-      ap (λ o. heading ++ line o) (file-in sent d version (take n tape′) (omega arith) (tap-back version strip tape n tape′ w));
+      ap (λ o. heading ++ line o) (file-in sent d version (take n tape′) (omega arith) (tapOf-written version strip tape n tape′ w));
   taken = λ f out count out′ sent. rw (sent-strip sent) (file-right f (taken sent .right));
 }

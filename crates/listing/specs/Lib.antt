@@ -1,3 +1,3 @@
 pub mod Listing
 pub mod Claim
-pub mod Lines
+pub mod private

@@ -6,7 +6,7 @@ use lib.Dec.{ltb}
 use lib.ListN.{length}
 use Rattle.lists.specs.Text.{ascii}
 use Rattle.refusal.specs.declared.Reason.the-variants.{WrongSize}
-use Rattle.refusal.specs.Refusal.{Outcome, refused, accepted, refuse, andThen}
+use Rattle.refusal.specs.Outcome.{Outcome, refused, accepted, refuse, andThen}
 use Rattle.pulse.specs.Pulse.{fixed, classes}
 use Rattle.header.specs.declared.Fields.{Fields}
 use Rattle.header.specs.Header.{shownName}

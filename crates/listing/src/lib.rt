@@ -15,11 +15,12 @@ ghost use mathlib.Core.Path.{_≡_};
 ghost use mathlib.Core.List.{_∷_, [], _++_, map};
 ghost use lib.ListN.{length};
 ghost use Rattle.lists.specs.Buffer.{putAt, Counts};
-ghost use Rattle.refusal.specs.Refusal.{numberOf, mapped, puts};
+ghost use Rattle.refusal.specs.Refusal.{numberOf};
+ghost use Rattle.refusal.specs.Outcome.{mapped, puts};
 ghost use Rattle.file.specs.File.{dataBytes};
 ghost use Rattle.file.specs.Reading.{loadedOf, headerOf, fileAnswer};
 ghost use Rattle.listing.specs.Listing.{digit, digits, decimal, hexadecimal, field, printed, fileLine, refusalLine, fileIn, listing};
-ghost use Rattle.listing.specs.Lines.{Appended, answerText};
+ghost use Rattle.listing.specs.private.Lines.{Appended, answerText};
 
 // The longest input that is listed: 16 KiB.
 const MOST_INPUT: usize = 16_384;
@@ -31,7 +32,7 @@ pub const INPUT_ROOM: usize = MOST_INPUT + 1;
 pub const MOST_TEXT: usize = 97;
 
 // Room for the durations of such an input: one for each data byte.
-const STRIP_ROOM: usize = MOST_INPUT - tap::HEADER_BYTES;
+const STRIP_ROOM: usize = MOST_INPUT - tap::TAP_HEADER_BYTES;
 
 // The most digits of a 64-bit number.
 const MOST_DIGITS: usize = 20;
@@ -96,7 +97,7 @@ fn put_refusal(r: Refusal, out: &mut [u8], at: usize) -> usize
 {
     let reason = r.reason;
     let after_word = put_text(b"refused ", out, at);
-    let after_number = put_number(refusal::number(reason) as u64, b' ', out, after_word);
+    let after_number = put_number(refusal::number_of(reason) as u64, b' ', out, after_word);
     let after_block = put_number(r.block as u64, b' ', out, after_number);
     put_number(r.place as u64, b'\n', out, after_block)
 }
@@ -109,16 +110,25 @@ fn put_fields(fields: Fields, name: &[u8], out: &mut [u8], at: usize) -> usize
     let after_kind = put_number(fields.kind as u64, b' ', out, at);
     let after_start = put_address(fields.start, out, after_kind);
     let after_end = put_address(fields.end, out, after_start);
-    let after_count = put_number(file::data_bytes(fields) as u64, b' ', out, after_end);
-    let after_name = put_name(name, out, after_count);
+    let after_count = put_number(data_bytes(fields) as u64, b' ', out, after_end);
+    let after_name = put_printed(name, out, after_count);
     put_text(b"\n", out, after_name)
+}
+
+// How many bytes the program has; none where the end is not above the start.
+fn data_bytes(fields: Fields) -> usize
+    ensures { λ r. ⌜ r ≡ dataBytes fields ⌝ }
+{
+    let start = fields.start as usize;
+    let end = fields.end as usize;
+    if end < start { 0 } else { end - start }
 }
 
 fn put_text(text: &[u8], out: &mut [u8], at: usize) -> usize
     requires { ⌜ at + length (now text) ≤ length (now out) ⌝ }
     ensures { λ r. ⌜ Appended (now (out .entry)) at (now (text .entry)) r (now (out .exit)) ⌝ }
 {
-    lists::put_bytes(text, out, at);
+    bytes::copy(text, &mut out[at..]);
     at + text.len()
 }
 
@@ -175,7 +185,7 @@ fn digit_of(d: u64) -> u8
     }
 }
 
-fn put_name(name: &[u8], out: &mut [u8], at: usize) -> usize
+fn put_printed(name: &[u8], out: &mut [u8], at: usize) -> usize
     requires { ⌜ at + length (now name) ≤ length (now out) ⌝ }
     ensures { λ r. ⌜ Appended (now (out .entry)) at (map printed (now (name .entry))) r (now (out .exit)) ⌝ }
 {

@@ -1,8 +1,8 @@
 -- Laws of tests.
-use Prim.Native.Nat.{ℕ}
-use native.Mathlib.Decide.{decLe}
+use Prim.Native.Nat.{ℕ, _<_}
+use native.Mathlib.Decide.{decLe, decLt}
 use native.Mathlib.Omega.{arith}
-use mathlib.Core.Path.{_≡_, refl}
+use mathlib.Core.Path.{_≡_, refl, sym}
 use mathlib.Core.Logic.{_⊎_, inl, inr}
 use mathlib.Core.Bool.{Bool, true, false, cond, not, _&&_, _||_}
 use borrow.Author.Tests.{le-leb, lt-leb, le-ltb, lt-ltb}
@@ -41,3 +41,10 @@ cond-second false x y z h e = (refl, e)
 
 pub leb-not : (a b : ℕ) → leb a b ≡ not (ltb b a)
 leb-not a b = elim (decLe a b) [ yes h ↦ rw (le-leb a b h, le-ltb b a h) | no h ↦ rw (lt-leb a b (omega arith), lt-ltb b a (omega arith)) ]
+
+-- two tests that hold together
+pub ltb-same : (a b c d : ℕ) → (a < b → c < d) → (c < d → a < b) → ltb a b ≡ ltb c d
+ltb-same a b c d f g = elim (decLt a b) [
+  | yes h ↦ rw (lt-ltb a b h, lt-ltb c d (f h))
+  | no h ↦ rw (le-ltb a b (omega arith)) (sym (le-ltb c d (elim (decLt c d) [ yes l ↦ absurd (h (g l)) | no l ↦ omega arith ])))
+]

@@ -3,7 +3,7 @@ use Prim.Native.Nat.{ℕ, suc, _+_, _-_, _≤_, _<_}
 use native.Mathlib.Nat.{zero-add, add-zero, add-suc, suc-add}
 use native.Mathlib.Decide.{decLe}
 use native.Mathlib.Omega.{arith}
-use mathlib.Core.Path.{_≡_, refl, ap, _∙_}
+use mathlib.Core.Path.{_≡_, refl, sym, ap, _∙_}
 use mathlib.Core.List.{List, [], _∷_, _++_, append-assoc, append-nil}
 use borrow.Author.Tests.{le-leb, lt-leb}
 use lib.ListN.{length, take, drop, set, length-append, length-drop, drop-of-length-le}
@@ -17,7 +17,7 @@ unfolding putAt
 put-room buffer at values h = rw (le-leb (at + length values) (length buffer) h) (sets-eq values buffer at h)
 
 -- where there is none, nothing is
-pub put-none : (buffer : List ℕ) (at : ℕ) (values : List ℕ) → length buffer < at + length values → putAt buffer at values ≡ buffer
+put-none : (buffer : List ℕ) (at : ℕ) (values : List ℕ) → length buffer < at + length values → putAt buffer at values ≡ buffer
 unfolding putAt
 put-none buffer at values h = rw (lt-leb (at + length values) (length buffer) h)
 
@@ -50,6 +50,11 @@ put-whole buffer values e =
     let past : length buffer ≤ length values = omega arith in
     put-front buffer values (omega arith) ∙ rw (drop-of-length-le buffer past, append-nil)
 
+-- values copied to the front, as `bytes::copy` says it
+pub put-copied : (buffer values : List ℕ) {buffer′ : List ℕ} → length values ≤ length buffer
+    → buffer′ ≡ take (length values) values ++ drop (length values) buffer → buffer′ ≡ putAt buffer 0 values
+put-copied buffer values h e = e ∙ rw (take-all (length values) values (omega arith)) (sym (put-front buffer values h))
+
 -- values put behind others, into the part of the buffer after them
 module _ (buffer xs ys : List ℕ) (fits : length xs + length ys ≤ length buffer) where
   put-append : take (length xs) (putAt buffer 0 xs) ++ putAt (drop (length xs) (putAt buffer 0 xs)) 0 ys ≡ putAt buffer 0 (xs ++ ys)
@@ -74,11 +79,14 @@ module _ (buffer xs ys : List ℕ) (fits : length xs + length ys ≤ length buff
       let past : length (drop n one) ≤ length one - n = rw length-drop (omega arith) in
       rw (q, take-all (length one - n) (drop n one) past, drop-of-length-le (drop n one) past, append-nil, p, ← e) put-append
 
--- values that reach to the end
-pub sets-last : (values buffer : List ℕ) (at : ℕ) → length buffer ≡ at + length values → sets buffer at values ≡ take at buffer ++ values
-sets-last values buffer at e =
-    let past : length buffer ≤ at + length values = omega arith in
-    sets-eq values buffer at (omega arith) ∙ rw (drop-of-length-le buffer past, append-nil)
+-- values put into the part of a buffer from a place on, which is lent and comes back
+pub sets-lent : (buffer values : List ℕ) (at : ℕ) {lent : List ℕ} → at + length values ≤ length buffer → lent ≡ putAt (part buffer at (length buffer - at)) 0 values
+    → take at buffer ++ (lent ++ drop (length buffer - at) (drop at buffer)) ≡ sets buffer at values
+sets-lent buffer values at h e =
+    let past : length (drop at buffer) ≤ length buffer - at = rw length-drop (omega arith) in
+    let room : length values ≤ length (drop at buffer) = rw length-drop (omega arith) in
+    rw (e, take-all (length buffer - at) (drop at buffer) past, drop-of-length-le (drop at buffer) past, append-nil, put-front (drop at buffer) values room, drop-drop)
+    (sym (append-assoc (take at buffer) values _) ∙ sym (sets-eq values buffer at h))
 
 -- values in two parts
 pub sets-append : (xs ys buffer : List ℕ) (at : ℕ) → sets buffer at (xs ++ ys) ≡ sets (sets buffer at xs) (at + length xs) ys

@@ -5,4 +5,3 @@ pub mod BufferLaws
 pub mod LoopLaws
 pub mod Table
 pub mod TextLaws
-pub mod FlagLaws

@@ -1,5 +1,5 @@
 -- Laws for loops: what is left, from the place where the loop stands, gives the whole.
-use Prim.Native.Nat.{ℕ, zero, suc, _+_, _-_, _≤_, _<_}
+use Prim.Native.Nat.{ℕ, suc, _+_, _-_, _≤_, _<_}
 use native.Mathlib.Nat.{add-zero}
 use native.Mathlib.Numerals.{add-one}
 use native.Mathlib.Omega.{arith}
@@ -7,11 +7,10 @@ use mathlib.Core.Path.{_≡_, refl, sym, ap, ap₂, _∙_}
 use mathlib.Core.Bool.{Bool, true, false}
 use mathlib.Core.List.{List, [], _∷_, _++_}
 use mathlib.Core.Option.{Option, none, some}
-use lib.ListN.{length, drop, getD, set, drop-of-length-le}
+use lib.ListN.{length, drop, getD, set}
 use lib.Seq.{sets, length-sets, drop-cons}
 use Rattle.lists.specs.Places.{firstFrom, tabulate}
-use Rattle.lists.specs.Buffer.{putAt}
-use Rattle.lists.proofs.BufferLaws.{sets-append, put-room}
+use Rattle.lists.proofs.BufferLaws.{sets-append}
 
 -- ---- A search through the numbers below n
 
@@ -89,6 +88,3 @@ module _ (before : List ℕ) (at : ℕ) (values : List ℕ) where
   module _ {out : List ℕ} {i : ℕ} (u : Copied out i) where
     pub copy-next : i < length values → Copied (set out (at + i) (getD values i 0)) (i + 1)
     copy-next h = put-one u (getD values i 0) _ (rw (add-one, drop-cons values i 0 h)) (omega arith)
-
-    pub copy-done : at + length values ≤ length before → length values ≤ i → out ≡ putAt before at values
-    copy-done room h = put-done u (drop-of-length-le values h) ∙ put-room before at values room

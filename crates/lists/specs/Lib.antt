@@ -1,4 +1,3 @@
 pub mod Places
 pub mod Buffer
 pub mod Text
-pub mod Flags

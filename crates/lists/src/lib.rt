@@ -1,47 +1,50 @@
-// Definitions and laws on lists and numbers that every layer uses (specs/, proofs/), the copy of bytes into a lent buffer, and rows
-// of flags.
+// Definitions and laws on lists and numbers that every layer uses (specs/, proofs/), and numbers as bytes, low first.
+ghost use Prim.Native.Nat.{_<_};
 ghost use mathlib.Core.Path.{_≡_};
-ghost use Rattle.lists.specs.Buffer.{putAt};
-ghost use Rattle.lists.specs.Flags.{flagAt, raised};
+ghost use lib.ListN.{take, getD};
+ghost use Rattle.lists.specs.Text.{lowFirst, fromLow};
 
-// Puts bytes into a lent buffer from `at` on; nothing where there is no room for all of them.
-pub fn put_bytes(values: &[u8], out: &mut [u8], at: usize)
-    ensures { λ _. ⌜ now (out .exit) ≡ putAt (now (out .entry)) at (now (values .entry)) ⌝ }
+// How many values a byte has.
+const BYTE_VALUES: u32 = 256;
+
+// Byte i of a number, the lowest first. There are four; past them it is 0.
+pub fn low_byte(n: u32, i: usize) -> u8
+    ensures { λ r. ⌜ r ≡ getD (lowFirst 4 n) i 0 ⌝ }
 {
-    if out.len() < at {
-        return;
+    if i == 0 {
+        return (n % BYTE_VALUES) as u8;
     }
-    if out.len() - at < values.len() {
-        return;
+    if i == 1 {
+        return (n / BYTE_VALUES % BYTE_VALUES) as u8;
     }
-    let mut i: usize = 0;
-    while i < values.len() {
-        out[at + i] = values[i];
-        i = i + 1;
+    if i == 2 {
+        return (n / BYTE_VALUES / BYTE_VALUES % BYTE_VALUES) as u8;
     }
+    if i == 3 {
+        return (n / BYTE_VALUES / BYTE_VALUES / BYTE_VALUES % BYTE_VALUES) as u8;
+    }
+    0
 }
 
-// Flags that a byte of a row holds.
-pub const BYTE_FLAGS: usize = 8;
-
-// Whether a flag of a row is raised; past the row's end none is.
-pub fn flag(row: &[u8], i: usize) -> bool
-    ensures { λ r. ⌜ r ≡ flagAt (now (row .entry)) i ⌝ }
+// The number that bytes make, the lowest first. Bytes after the fourth do not count.
+pub fn from_low(bytes: &[u8]) -> u32
+    ensures { λ r. ⌜ r ≡ fromLow (take 4 (now (bytes .entry))) ⌝ }
 {
-    let at = i / BYTE_FLAGS;
-    if row.len() <= at {
-        return false;
-    }
-    (row[at] >> (i % BYTE_FLAGS)) % 2 == 1
+    let high = byte_or_zero(bytes, 2) + BYTE_VALUES * byte_or_zero(bytes, 3);
+    byte_or_zero(bytes, 0) + BYTE_VALUES * (byte_or_zero(bytes, 1) + BYTE_VALUES * high)
 }
 
-// Raises a flag of a row; past the row's end there is none to raise.
-pub fn raise_flag(row: &mut [u8], i: usize)
-    ensures { λ _. ⌜ now (row .exit) ≡ raised (now (row .entry)) i ⌝ }
+// Byte i, 0 past the end.
+fn byte_or_zero(bytes: &[u8], i: usize) -> u32
+    ensures { λ r. ⌜ r ≡ getD (now (bytes .entry)) i 0 ⌝ }
+    ensures { λ r. ⌜ r < 256 ⌝ }
 {
-    let at = i / BYTE_FLAGS;
-    if row.len() <= at {
-        return;
-    }
-    row[at] = row[at] | (1 << (i % BYTE_FLAGS));
+    if i < bytes.len() { wide(bytes[i]) } else { 0 }
+}
+
+fn wide(b: u8) -> u32
+    ensures { λ r. ⌜ r ≡ b ⌝ }
+    ensures { λ r. ⌜ r < 256 ⌝ }
+{
+    b as u32
 }

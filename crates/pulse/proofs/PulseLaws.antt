@@ -13,7 +13,7 @@ use Rattle.pulse.specs.declared.Thresholds.{Thresholds}
 use Rattle.pulse.specs.declared.Class.{Class}
 use Rattle.pulse.specs.declared.Class.the-variants.{Short, Medium, Long, Noise}
 use Rattle.pulse.specs.Pulse.{fixed, classOf, classes, code, same, writtenAs, pulses}
-use Rattle.pulse.specs.Figures.{Written, ntsc, pal}
+use Rattle.pulse.specs.Figures.{RoundedFigures, ntsc, pal}
 
 -- ---- classes
 
@@ -89,8 +89,8 @@ pub put-pulses : {before : List ℕ} {at : ℕ} {values buffer buffer′ : List 
 put-pulses {p = p} now later u e l q =
     put-next u (pulses now) (pulses later) (map-append writtenAs now later) e (q ∙ ap (λ n. p + n) (sym (length-map now writtenAs ∙ l)))
 
-pub written-ntsc : Written ntsc
+pub written-ntsc : RoundedFigures ntsc
 written-ntsc = record { short = refl; medium = refl; long = refl }
 
-pub written-pal : Written pal
+pub written-pal : RoundedFigures pal
 written-pal = record { short = refl; medium = refl; long = refl }

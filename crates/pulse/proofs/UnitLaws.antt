@@ -32,11 +32,6 @@ cycles-units c u fits e =
 
 -- ---- The cases
 
--- what a pulse can count fits
-pub cycles-fit : (u : Units) → u .0 * unitCycles < 2 ^ 32 → cyclesOf u ≡ Fits (record { 0 = u .0 * unitCycles })
-unfolding cyclesOf
-cycles-fit u h = rw (lt-ltb (u .0 * unitCycles) (2 ^ 32) h)
-
 -- a multiple of a unit's cycles is whole
 pub units-whole : (c : Cycles) → c .0 % unitCycles ≡ 0 → unitsOf c ≡ Whole (record { 0 = c .0 / unitCycles })
 unfolding unitsOf

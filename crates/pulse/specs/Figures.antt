@@ -24,7 +24,7 @@ abbrev pub rounded : ℕ → ℕ → ℕ
 rounded clock half = 8 * ((2 * half * clock + 4 * 10 ^ 8) / (8 * 10 ^ 8))
 
 -- the three written figures are this machine's
-pub record Written (m : Machine) : Type 0 where
+pub record RoundedFigures (m : Machine) : Type 0 where
   pub short : rounded (m .clock) (m .short) ≡ writtenAs Short
   pub medium : rounded (m .clock) (m .medium) ≡ writtenAs Medium
   pub long : rounded (m .clock) (m .long) ≡ writtenAs Long

@@ -18,6 +18,10 @@ unitCycles = 8
 unfoldable pub cyclesOf : Units → InCycles
 cyclesOf u = cond (ltb (u .0 * unitCycles) (2 ^ 32)) (Fits (record { 0 = u .0 * unitCycles })) TooLong
 
+-- as many units as a byte counts, in cycles: these always fit
+abbrev pub byteCycles : (units : ℕ) → ℕ
+byteCycles units = units * unitCycles
+
 -- the other way: only a multiple of a unit's cycles is a whole number of units
 unfoldable pub unitsOf : Cycles → InUnits
 unitsOf c = cond (eqb (c .0 % unitCycles) 0) (Whole (record { 0 = c .0 / unitCycles })) Between

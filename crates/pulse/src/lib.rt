@@ -6,7 +6,7 @@
 ghost use mathlib.Core.Path.{_≡_};
 ghost use mathlib.Core.Bool.{cond};
 ghost use Rattle.pulse.specs.Pulse.{classOf, fixed, writtenAs, same};
-ghost use Rattle.pulse.specs.Units.{cyclesOf, unitsOf};
+ghost use Rattle.pulse.specs.Units.{byteCycles, cyclesOf, unitsOf};
 
 pub enum Class {
     Short,
@@ -35,7 +35,7 @@ pub const FIXED: Thresholds = Thresholds {
 
 impl Thresholds {
     // The thresholds for a deck that runs at its proper speed.
-    pub fn standard() -> Thresholds
+    pub fn fixed() -> Thresholds
         ensures { λ r. ⌜ r ≡ fixed ⌝ }
     {
         FIXED
@@ -138,6 +138,13 @@ pub fn cycles_of(u: Units) -> InCycles
     } else {
         InCycles::TooLong
     }
+}
+
+// The cycles of as many units as one byte counts. These always fit.
+pub fn byte_cycles(units: u8) -> Cycles
+    ensures { λ r. ⌜ r .0 ≡ byteCycles units ⌝ }
+{
+    Cycles(units as u32 * UNIT_CYCLES)
 }
 
 pub fn units_of(c: Cycles) -> InUnits

@@ -1,67 +1,68 @@
--- Laws of outcomes: what a refusal answers and puts, what is accepted after a test that refuses, and what a writer comes to.
-use Prim.Native.Nat.{ℕ}
+-- Laws of outcomes: what is accepted after a test that refuses, and what an answer tells of the outcome.
+use Prim.Native.Nat.{ℕ, _≤_, _<_}
 use native.Mathlib.Omega.{arith}
 use mathlib.Core.Path.{_≡_, refl}
 use mathlib.Core.Bool.{Bool, false, cond}
-use mathlib.Core.List.{List, []}
 use mathlib.Core.Option.{Option, none, some}
-use borrow.Author.Tests.{le-leb}
-use lib.ListN.{length}
-use Rattle.lists.specs.Buffer.{putAt}
+use borrow.Author.Tests.{lt-ltb, le-ltb, ltb-false}
+use lib.Dec.{ltb}
 use Rattle.lists.proofs.BoolLaws.{cond-second}
 use Rattle.refusal.specs.declared.Reason.{Reason}
+use Rattle.refusal.specs.declared.Reason.the-variants.{NoRoom}
 use Rattle.refusal.specs.declared.Refusal.{Refusal}
-use Rattle.refusal.specs.declared.Put.the-variants.{Count, Refused}
-use Rattle.refusal.specs.Refusal.{Outcome, refused, accepted, refuseFirst, told, mapped, inBlock, andThen, Written}
+use Rattle.refusal.specs.Refusal.{refusalAt}
+use Rattle.refusal.specs.Outcome.{Outcome, refused, accepted, refusedWith, refuse, refuseFirst, ifRoom, mapped, ofBlock, andThen}
 
--- a refusal puts nothing
-pub puts-refused : (buffer : List ℕ) → buffer ≡ putAt buffer 0 []
-unfolding putAt
-puts-refused buffer = rw (le-leb 0 (length buffer) (omega arith))
+-- ---- cond: a test that refuses
 
-pub accepted-next : {A : Type 0} (t : Bool) (r : Refusal) (later : Outcome A) (given : A) → cond t (told r) later ≡ accepted given
+pub cond-accepted : {A : Type 0} (t : Bool) (r : Refusal) (later : Outcome A) (given : A) → cond t (refusedWith r) later ≡ accepted given
     → (t ≡ false) × (later ≡ accepted given)
-accepted-next t r later given = cond-second t (told r) later (accepted given) (λ e. let z : _≡_ {A = ℕ} 0 1 = cc in omega arith)
+cond-accepted t r later given = cond-second t (refusedWith r) later (accepted given) (λ e. let z : _≡_ {A = ℕ} 0 1 = cc in omega arith)
 
-pub first-accepted : {A : Type 0} (reason : Reason) (found : Option ℕ) (later : Outcome A) (given : A) → refuseFirst reason found later ≡ accepted given
-    → later ≡ accepted given
-first-accepted reason none later given e = e
-first-accepted reason (some place) later given e = absurd (let z : _≡_ {A = ℕ} 0 1 = cc in omega arith)
+-- ---- refuseFirst
 
 -- then no place was found
-pub first-found : {A : Type 0} (reason : Reason) (found : Option ℕ) (later : Outcome A) (given : A) → refuseFirst reason found later ≡ accepted given
-    → found ≡ none
-first-found reason none later given e = refl
-first-found reason (some place) later given e = absurd (let z : _≡_ {A = ℕ} 0 1 = cc in omega arith)
+pub refuseFirst-accepted : {A : Type 0} (reason : Reason) (found : Option ℕ) (later : Outcome A) (given : A)
+    → refuseFirst reason found later ≡ accepted given → (found ≡ none) × (later ≡ accepted given)
+refuseFirst-accepted reason none later given e = (refl, e)
+refuseFirst-accepted reason (some place) later given e = absurd (let z : _≡_ {A = ℕ} 0 1 = cc in omega arith)
 
-pub then-accepted : {A B : Type 0} (o : Outcome A) (next : A → Outcome B) (given : B) → andThen o next ≡ accepted given
+-- ---- ifRoom
+
+pub ifRoom-noRoom : {A : Type 0} (room n : ℕ) (later : Outcome A) → room < n → ifRoom room n later ≡ refuse NoRoom 0
+unfolding ifRoom
+ifRoom-noRoom room n later h = rw (lt-ltb room n h)
+
+pub ifRoom-room : {A : Type 0} (room n : ℕ) (later : Outcome A) → n ≤ room → ifRoom room n later ≡ later
+unfolding ifRoom
+ifRoom-room room n later h = rw (le-ltb room n h)
+
+pub ifRoom-accepted : {A : Type 0} (room n : ℕ) (later : Outcome A) (given : A) → ifRoom room n later ≡ accepted given
+    → (n ≤ room) × (later ≡ accepted given)
+unfolding ifRoom
+ifRoom-accepted room n later given e = let r = cond-accepted (ltb room n) (refusalAt NoRoom 0) later given e in (ltb-false room n (r .0), r .1)
+
+-- ---- andThen, ofBlock, accepted
+
+pub andThen-accepted : {A B : Type 0} (o : Outcome A) (next : A → Outcome B) (given : B) → andThen o next ≡ accepted given
     → (x : A) × (o ≡ accepted x) × (next x ≡ accepted given)
-then-accepted (refused why) next given e = absurd (let z : _≡_ {A = ℕ} 0 1 = cc in omega arith)
-then-accepted (accepted x) next given e = (x, refl, e)
+andThen-accepted (refused why) next given e = absurd (let z : _≡_ {A = ℕ} 0 1 = cc in omega arith)
+andThen-accepted (accepted x) next given e = (x, refl, e)
 
-pub block-accepted : {A : Type 0} (block : ℕ) (o : Outcome A) (given : A) → inBlock block o ≡ accepted given → o ≡ accepted given
-block-accepted block (refused why) given e = absurd (let z : _≡_ {A = ℕ} 0 1 = cc in omega arith)
-block-accepted block (accepted x) given e = e
+pub ofBlock-accepted : {A : Type 0} (block : ℕ) (o : Outcome A) (given : A) → ofBlock block o ≡ accepted given → o ≡ accepted given
+ofBlock-accepted block (refused why) given e = absurd (let z : _≡_ {A = ℕ} 0 1 = cc in omega arith)
+ofBlock-accepted block (accepted x) given e = e
 
 -- an outcome gives one thing
 pub accepted-once : {A : Type 0} {o : Outcome A} {x y : A} → o ≡ accepted x → o ≡ accepted y → x ≡ y
 accepted-once e q = cc
 
--- ---- What a call answers tells its outcome
+-- ---- mapped: what is answered tells the outcome
 
-pub mapped-told : {A B : Type 0} (f : A → B) (o : Outcome A) (r : Refusal) → told r ≡ mapped f o → o ≡ told r
-mapped-told f (refused why) r e = cc
-mapped-told f (accepted given) r e = absurd (let z : _≡_ {A = ℕ} 0 1 = cc in omega arith)
+pub mapped-refused : {A B : Type 0} (f : A → B) (o : Outcome A) (r : Refusal) → refusedWith r ≡ mapped f o → o ≡ refusedWith r
+mapped-refused f (refused why) r e = cc
+mapped-refused f (accepted given) r e = absurd (let z : _≡_ {A = ℕ} 0 1 = cc in omega arith)
 
 pub mapped-accepted : {A B : Type 0} (f : A → B) (o : Outcome A) {x : B} → accepted x ≡ mapped f o → (y : A) × (o ≡ accepted y) × (f y ≡ x)
 mapped-accepted f (refused why) e = absurd (let z : _≡_ {A = ℕ} 0 1 = cc in omega arith)
 mapped-accepted f (accepted given) e = (given, refl, cc)
-
--- ---- What a writer promises
-
-pub written-refused : (o : Outcome (List ℕ)) (out : List ℕ) {r s : Refusal} → o ≡ told s → r ≡ s → Written o out (Refused r) out
-written-refused o out e q = rw (e, q) (refl, puts-refused out)
-
-pub written-accepted : (o : Outcome (List ℕ)) (out : List ℕ) {values out′ : List ℕ} {count : ℕ} → o ≡ accepted values → length values ≡ count
-    → out′ ≡ putAt out 0 values → Written o out (Count count) out′
-written-accepted o out e l q = rw (e, l) (refl, q)

@@ -1,6 +1,6 @@
 // Refusals. A call that refuses its input tells the reason, the block and the place; it alters nothing in a lent buffer.
 ghost use mathlib.Core.Path.{_≡_};
-ghost use Rattle.refusal.specs.Refusal.{numberOf, refusalAt, refusalIn};
+ghost use Rattle.refusal.specs.Refusal.{numberOf, refusalAt, inBlock};
 
 // The reasons, in the order of their numbers.
 pub enum Reason {
@@ -34,7 +34,7 @@ pub enum Put {
 }
 
 // The number that a reason is known by.
-pub fn number(reason: Reason) -> u32
+pub fn number_of(reason: Reason) -> u32
     ensures { λ r. ⌜ r ≡ numberOf reason ⌝ }
 {
     match reason {
@@ -68,7 +68,7 @@ pub fn at(reason: Reason, place: usize) -> Refusal
 
 // The same refusal, of another block.
 pub fn in_block(r: Refusal, block: u32) -> Refusal
-    ensures { λ s. ⌜ s ≡ refusalIn block r ⌝ }
+    ensures { λ s. ⌜ s ≡ inBlock block r ⌝ }
 {
     let reason = r.reason;
     Refusal {

@@ -134,7 +134,7 @@ fn say_number(n: usize) {
 fn say_refusal(r: Refusal) {
     let reason = r.reason;
     say(b"refused");
-    say_number(refusal::number(reason) as usize);
+    say_number(refusal::number_of(reason) as usize);
     say_number(r.block as usize);
     say_number(r.place);
     say(b"\n");

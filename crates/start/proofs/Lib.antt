@@ -1,2 +1,3 @@
 mod Searching
 pub mod StartLaws
+pub mod CopiesLaws

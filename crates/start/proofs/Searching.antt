@@ -16,10 +16,10 @@ use Rattle.pulse.specs.declared.Class.the-variants.{Short, Noise}
 use Rattle.pulse.specs.Pulse.{classOf, classes, same}
 use Rattle.pulse.proofs.PulseLaws.{class-at, same-eq}
 use Rattle.byte.specs.Byte.{byteAt, isGood}
-use Rattle.byte.proofs.ByteLaws.{good-is, byteAt-short, byteAt-within}
+use Rattle.byte.proofs.ByteLaws.{isGood-true, byteAt-short, byteAt-within}
 use Rattle.start.specs.Start.{Start, startOf}
 use Rattle.start.specs.private.Search.{notShort, lastFrom}
-use Rattle.start.proofs.StartLaws.{start-some, start-none, start-shorts, shorts-before}
+use Rattle.start.proofs.StartLaws.{startOf-first, startOf-nowhere, start-shorts, shorts-before}
 
 -- ---- lastFrom
 
@@ -85,12 +85,12 @@ pub record Searching (cs : List Class) (from at : ℕ) : Type 0 where
 
 module _ {cs : List Class} {from at : ℕ} (u : Searching cs from at) where
   -- fewer than sixteen pulses are left
-  pub ended : length cs < at + 16 → none ≡ startOf cs from
-  ended h = sym (start-none (λ p s. u .passed p (omega (arith, byteAt-within cs p 0x89 (s .first))) s))
+  pub findStart-fewer : length cs < at + 16 → none ≡ startOf cs from
+  findStart-fewer h = sym (startOf-nowhere (λ p s. u .passed p (omega (arith, byteAt-within cs p 0x89 (s .first))) s))
 
   -- on just after a pulse that is not short
-  jumped : (i : ℕ) → at ≤ i → notShort cs i ≡ true → ((p : ℕ) → p ≤ i → Start cs from p → ⊥) → Searching cs from (i + 1)
-  jumped i l e h = record {
+  searching-past : (i : ℕ) → at ≤ i → notShort cs i ≡ true → ((p : ℕ) → p ≤ i → Start cs from p → ⊥) → Searching cs from (i + 1)
+  searching-past i l e h = record {
     low = omega (arith, u .low);
     passed = λ p b s. elim (decLt i p) [
       | yes a ↦ ruled-out cs i e a (omega arith) s
@@ -99,10 +99,10 @@ module _ {cs : List Class} {from at : ℕ} (u : Searching cs from at) where
   }
 
   -- one of the sixteen is not short
-  pub broken : {i : ℕ} → lastFrom (notShort cs) 16 at ≡ some i → Searching cs from (i + 1)
-  broken {i} e =
+  pub searching-notShort : {i : ℕ} → lastFrom (notShort cs) 16 at ≡ some i → Searching cs from (i + 1)
+  searching-notShort {i} e =
       let r = some-last (notShort cs) at 16 i e in
-      jumped i (r .0) (r .2) (λ p b s. u .passed p (omega arith) s)
+      searching-past i (r .0) (r .2) (λ p b s. u .passed p (omega arith) s)
 
   -- a run of short pulses after them: no byte begins with one
   run-over : {end : ℕ} → ((i : ℕ) → at + 16 ≤ i → i < end → notShort cs i ≡ false) → (p : ℕ) → p < end → Start cs from p → ⊥
@@ -113,29 +113,29 @@ module _ {cs : List Class} {from at : ℕ} (u : Searching cs from at) where
 
   module _ (count : ℕ) where
     -- it lasts to the end of the strip
-    pub run-lasts : length cs ≤ at + 16 + count → firstFrom (notShort cs) count (at + 16) ≡ none → none ≡ startOf cs from
-    run-lasts long e = sym (start-none (λ p s. run-over (none-first (notShort cs) count (at + 16) e) p (omega (arith, byteAt-within cs p 0x89 (s .first))) s))
+    pub findStart-runLasts : length cs ≤ at + 16 + count → firstFrom (notShort cs) count (at + 16) ≡ none → none ≡ startOf cs from
+    findStart-runLasts long e = sym (startOf-nowhere (λ p s. run-over (none-first (notShort cs) count (at + 16) e) p (omega (arith, byteAt-within cs p 0x89 (s .first))) s))
 
     -- it ends
     module _ {end : ℕ} (e : firstFrom (notShort cs) count (at + 16) ≡ some end) where
       run-ends : First (notShort cs) count (at + 16) end
       run-ends = some-first (notShort cs) count (at + 16) end e
 
-      pub other-byte : isGood 0x89 (byteAt cs end) ≡ false → Searching cs from (end + 1)
-      other-byte b = jumped end (omega (arith, run-ends .low)) (run-ends .passes) (λ p h s. elim (ℕ-discrete p end) [
+      pub searching-otherByte : isGood 0x89 (byteAt cs end) ≡ false → Searching cs from (end + 1)
+      searching-otherByte b = searching-past end (omega (arith, run-ends .low)) (run-ends .passes) (λ p h s. elim (ℕ-discrete p end) [
         | yes q ↦ let b′ = rw (← q, s .first) at b in let z : _≡_ {A = ℕ} 0 1 = cc in omega arith
         | no q ↦ run-over (run-ends .least) p (omega arith) s
       ])
 
-      pub found : lastFrom (notShort cs) 16 at ≡ none → isGood 0x89 (byteAt cs end) ≡ true → some end ≡ startOf cs from
-      found all b =
-          let good = good-is 0x89 (byteAt cs end) b in
+      pub findStart-found : lastFrom (notShort cs) 16 at ≡ none → isGood 0x89 (byteAt cs end) ≡ true → some end ≡ startOf cs from
+      findStart-found all b =
+          let good = isGood-true 0x89 (byteAt cs end) b in
           let within = byteAt-within cs end 0x89 good in
           let far : at + 16 ≤ end = run-ends .low in
           let first = none-last (notShort cs) at 16 all in
           let short : (i : ℕ) → at ≤ i → i < end → getD cs i Noise ≡ Short =
           λ i l h. is-short cs i (elim (decLt i (at + 16)) [ yes a ↦ first i l a | no a ↦ run-ends .least i (omega arith) h ]) in
-          sym (start-some (record {
+          sym (startOf-first (record {
             far = omega (arith, u .low);
             shorts = shorts-before cs end (omega arith) (omega arith) (λ i l h. short i (omega arith) h);
             first = good;

@@ -19,7 +19,7 @@ use Rattle.pulse.specs.Pulse.{same}
 use Rattle.pulse.proofs.PulseLaws.{same-eq}
 use Rattle.byte.specs.declared.ByteRead.the-variants.{Good}
 use Rattle.byte.specs.Byte.{byteAt, isGood}
-use Rattle.byte.proofs.ByteLaws.{good-is, byteAt-short, byteAt-within}
+use Rattle.byte.proofs.ByteLaws.{isGood-true, byteAt-short, byteAt-within}
 use Rattle.start.specs.Start.{allShort, isStart, Start, startOf}
 
 -- ---- Tests
@@ -39,23 +39,23 @@ all-short (c ∷ cs) e =
 -- ---- The test is rule 1 in words
 
 module _ {cs : List Class} {from p : ℕ} where
-  pub start-passes : Start cs from p → isStart cs from p ≡ true
+  pub isStart-holds : Start cs from p → isStart cs from p ≡ true
   unfolding isStart
-  start-passes s = rw (le-leb (from + 16) p (s .far), s .shorts, short-all 16, s .first)
+  isStart-holds s = rw (le-leb (from + 16) p (s .far), s .shorts, short-all 16, s .first)
 
-  pub passes-start : isStart cs from p ≡ true → Start cs from p
+  pub isStart-start : isStart cs from p ≡ true → Start cs from p
   unfolding isStart
-  passes-start e =
+  isStart-start e =
       let h = and-true (leb (from + 16) p && allShort (part cs (p - 16) 16)) (isGood (0x89) (byteAt cs p)) e in
       let h′ = and-true (leb (from + 16) p) (allShort (part cs (p - 16) 16)) (h .0) in
       let far : from + 16 ≤ p = leb-true (from + 16) p (h′ .0) in
-      let first : byteAt cs p ≡ Good 0x89 = good-is 0x89 (byteAt cs p) (h .1) in
+      let first : byteAt cs p ≡ Good 0x89 = isGood-true 0x89 (byteAt cs p) (h .1) in
       let within : p + 20 ≤ length cs = byteAt-within cs p 0x89 first in
       let long : length (part cs (p - 16) 16) ≡ 16 = simp (length-take, length-drop) (omega arith) in
       record { far = far; shorts = all-short (part cs (p - 16) 16) (h′ .1) ∙ rw long; first = first }
 
-  start-fails : (Start cs from p → ⊥) → isStart cs from p ≡ false
-  start-fails h = not-holds (isStart cs from p) (λ e. h (passes-start e))
+  isStart-fails : (Start cs from p → ⊥) → isStart cs from p ≡ false
+  isStart-fails h = not-holds (isStart cs from p) (λ e. h (isStart-start e))
 
   -- the sixteen pulses before a start
   pub start-shorts : Start cs from p → (i : ℕ) → p ≤ i + 16 → i < p → getD cs i Noise ≡ Short
@@ -69,39 +69,39 @@ module _ {cs : List Class} {from p : ℕ} where
 -- ---- The start is the smallest such place
 
 module _ {cs : List Class} {from : ℕ} where
-  pub start-some : {p : ℕ} → Start cs from p → ((i : ℕ) → i < p → Start cs from i → ⊥) → startOf cs from ≡ some p
+  pub startOf-first : {p : ℕ} → Start cs from p → ((i : ℕ) → i < p → Start cs from i → ⊥) → startOf cs from ≡ some p
   unfolding startOf
-  start-some {p} s least =
+  startOf-first {p} s least =
       let within : p + 20 ≤ length cs = byteAt-within cs p 0x89 (s .first) in
       first-some (record {
         low = omega arith;
         high = omega arith;
-        passes = start-passes s;
-        least = λ i _ h. start-fails (least i h);
+        passes = isStart-holds s;
+        least = λ i _ h. isStart-fails (least i h);
       })
 
-  pub some-start : {p : ℕ} → startOf cs from ≡ some p → Start cs from p × ((i : ℕ) → i < p → Start cs from i → ⊥)
+  pub startOf-some : {p : ℕ} → startOf cs from ≡ some p → Start cs from p × ((i : ℕ) → i < p → Start cs from i → ⊥)
   unfolding startOf
-  some-start {p} e =
+  startOf-some {p} e =
       let r = some-first (isStart cs from) (length cs) 0 p e in
-      (passes-start (r .passes), λ i h s. (let l = r .least i (omega arith) h in let t = start-passes s in let z : _≡_ {A = ℕ} 0 1 = cc in omega arith))
+      (isStart-start (r .passes), λ i h s. (let l = r .least i (omega arith) h in let t = isStart-holds s in let z : _≡_ {A = ℕ} 0 1 = cc in omega arith))
 
-  pub start-none : ((p : ℕ) → Start cs from p → ⊥) → startOf cs from ≡ none
+  pub startOf-nowhere : ((p : ℕ) → Start cs from p → ⊥) → startOf cs from ≡ none
   unfolding startOf
-  start-none h = first-none (isStart cs from) (length cs) 0 (λ i _ _. start-fails (h i))
+  startOf-nowhere h = first-none (isStart cs from) (length cs) 0 (λ i _ _. isStart-fails (h i))
 
-  pub none-start : startOf cs from ≡ none → (p : ℕ) → Start cs from p → ⊥
+  pub startOf-none : startOf cs from ≡ none → (p : ℕ) → Start cs from p → ⊥
   unfolding startOf
-  none-start e p s =
+  startOf-none e p s =
       let within : p + 20 ≤ length cs = byteAt-within cs p 0x89 (s .first) in
       let l = none-first (isStart cs from) (length cs) 0 e p (omega arith) (omega arith) in
-      let t = start-passes s in
+      let t = isStart-holds s in
       let z : _≡_ {A = ℕ} 0 1 = cc in
       omega arith
 
 -- a `from` past the strip gives none
-pub start-past : (cs : List Class) (from : ℕ) → length cs ≤ from → startOf cs from ≡ none
-start-past cs from h = start-none (λ p s. let within = byteAt-within cs p 0x89 (s .first) in omega (arith, s .far))
+pub startOf-past : (cs : List Class) (from : ℕ) → length cs ≤ from → startOf cs from ≡ none
+startOf-past cs from h = startOf-nowhere (λ p s. let within = byteAt-within cs p 0x89 (s .first) in omega (arith, s .far))
 
 -- ---- Only short pulses between `from` and a good $89
 
@@ -114,11 +114,11 @@ shorts-before cs p far within short =
     getD-part cs (p - 16) 16 i Noise l ∙ short (p - 16 + i) (omega arith) (omega arith) ∙ sym (getD-replicate 16 i Short Noise l))
 
 -- then it is the start: no byte begins with a short pulse
-pub start-short : (cs : List Class) (from p : ℕ) → from + 16 ≤ p → ((i : ℕ) → p - 16 ≤ i → i < p → getD cs i Noise ≡ Short)
+pub startOf-short : (cs : List Class) (from p : ℕ) → from + 16 ≤ p → ((i : ℕ) → p - 16 ≤ i → i < p → getD cs i Noise ≡ Short)
     → ((i : ℕ) → from < i → i < p → getD cs i Noise ≡ Short) → byteAt cs p ≡ Good 0x89
     → startOf cs from ≡ some p
-start-short cs from p far near short first =
+startOf-short cs from p far near short first =
     let within : p + 20 ≤ length cs = byteAt-within cs p 0x89 first in
-    start-some
+    startOf-first
     (record { far = omega arith; shorts = shorts-before cs p (omega arith) (omega arith) near; first = first })
     (λ i h s. (let bad = rw (s .first) at (byteAt-short cs i (short i (omega (arith, s .far)) h)) in let z : _≡_ {A = ℕ} 0 1 = cc in omega arith))

@@ -1,2 +1,3 @@
 pub mod Start
+pub mod Copies
 pub mod private

@@ -7,6 +7,8 @@ use mathlib.Core.Option.{Option, none, some}
 use lib.Dec.{leb}
 use lib.ListN.{length, replicate}
 use Rattle.lists.specs.Places.{firstFrom, part}
+use Rattle.refusal.specs.declared.Reason.the-variants.{NoStart}
+use Rattle.refusal.specs.Outcome.{Outcome, accepted, refuse}
 use Rattle.pulse.specs.declared.Class.{Class}
 use Rattle.pulse.specs.declared.Class.the-variants.{Short}
 use Rattle.pulse.specs.Pulse.{same}
@@ -33,7 +35,18 @@ pub record Start (cs : List Class) (from p : ℕ) : Type 0 where
 unfoldable pub startOf : (cs : List Class) (from : ℕ) → Option ℕ
 startOf cs from = firstFrom (isStart cs from) (length cs) 0
 
+-- what the search comes to: refusal 3 where there is none
+abbrev pub startAt : Option ℕ → Outcome ℕ
+startAt none = refuse NoStart 0
+startAt (some p) = accepted p
+
+unfoldable pub findStart : (cs : List Class) (from : ℕ) → Outcome ℕ
+findStart cs from = startAt (startOf cs from)
+
 -- what is answered
 abbrev pub foundAt : Found → Option ℕ
 foundAt (At place) = some place
 foundAt Nothing = none
+
+abbrev pub foundAnswer : Found → Outcome ℕ
+foundAnswer found = startAt (foundAt found)

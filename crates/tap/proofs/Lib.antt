@@ -1,8 +1,8 @@
-mod Groups
-mod Converting
-mod Writing
-mod Decoding
-mod Heading
+mod GroupLaws
+mod UnitLaws
+mod HeaderLaws
+mod ReaderLaws
+mod WriterLaws
 pub mod DataLaws
 pub mod FormLaws
 pub mod RoundTrip

@@ -1,4 +1,4 @@
 pub mod Tap
 pub mod Reading
 pub mod Claim
-pub mod Forms
+pub mod private

@@ -1,15 +1,14 @@
 -- Reading TAP files (document 01, 'TAP files').
 use Prim.Native.Nat.{ℕ, zero, suc, _+_, _*_}
-use mathlib.Core.Path.{_≡_}
 use mathlib.Core.Bool.{Bool, cond, not, _||_}
 use mathlib.Core.List.{List, [], _∷_}
 use lib.Dec.{eqb, ltb}
 use lib.ListN.{length, take, drop, getD}
 use Rattle.lists.specs.Places.{part}
-use Rattle.lists.specs.Buffer.{putAt}
 use Rattle.lists.specs.Text.{fromLow, equal}
-use Rattle.refusal.specs.declared.Reason.the-variants.{NoRoom, WrongTapHeader, WrongTapVersion, CutLongForm}
-use Rattle.refusal.specs.Refusal.{Outcome, accepted, refuse, told, mapped, andThen, Fills, Promise}
+use Rattle.refusal.specs.declared.Reason.the-variants.{WrongTapHeader, WrongTapVersion, CutLongForm}
+use Rattle.refusal.specs.Outcome.{Outcome, accepted, refuse, refusedWith, ifRoom, mapped, andThen}
+use Rattle.refusal.specs.Promise.{Answers, Fills, itself}
 use Rattle.pulse.specs.Units.{unitCycles}
 use Rattle.tap.specs.declared.TapInfo.{TapInfo}
 use Rattle.tap.specs.declared.TapAnswer.{TapAnswer}
@@ -74,7 +73,7 @@ tapOf file = andThen (tapVersion file) (λ v. mapped (tapWith v) (durationsIn v 
 
 -- the durations into `room` places, or refusal 2
 unfoldable pub fitting : (room : ℕ) → Tap → Outcome Tap
-fitting room t = cond (ltb room (length (t .durations))) (refuse NoRoom 0) (accepted t)
+fitting room t = ifRoom room (length (t .durations)) (accepted t)
 
 unfoldable pub readTap : (room : ℕ) (file : List ℕ) → Outcome Tap
 readTap room file = andThen (tapOf file) (fitting room)
@@ -82,8 +81,8 @@ readTap room file = andThen (tapOf file) (fitting room)
 -- what the reader answers
 abbrev pub tapAnswer : TapAnswer → Outcome TapInfo
 tapAnswer (Accepted tape) = accepted tape
-tapAnswer (Refused r) = told r
+tapAnswer (Refused r) = refusedWith r
 
 -- what the reader promises: it answers r and leaves out′ in the buffer that held out, as the outcome says
-abbrev pub Reads : (o : Outcome Tap) (out : List ℕ) (r : TapAnswer) (out′ : List ℕ) → Type 0
-Reads o out r out′ = Promise (mapped infoOf) (Fills durationsOf out out′) o (tapAnswer r)
+abbrev pub TapPromise : (o : Outcome Tap) (out : List ℕ) (r : TapAnswer) (out′ : List ℕ) → Type 0
+TapPromise o out r out′ = Answers itself infoOf o (tapAnswer r) × Fills durationsOf o out out′

@@ -7,8 +7,8 @@ use lib.Dec.{eqb, leb, ltb}
 use lib.ListN.{length, getD}
 use Rattle.lists.specs.Places.{firstFrom}
 use Rattle.lists.specs.Text.{ascii, lowFirst}
-use Rattle.refusal.specs.declared.Reason.the-variants.{WrongSize, NoRoom, WrongTapVersion, NoTapForm}
-use Rattle.refusal.specs.Refusal.{Outcome, accepted, refuse, refuseFirst, andThen}
+use Rattle.refusal.specs.declared.Reason.the-variants.{WrongSize, WrongTapVersion, NoTapForm}
+use Rattle.refusal.specs.Outcome.{Outcome, accepted, refuse, refuseFirst, ifRoom, andThen}
 use Rattle.pulse.specs.Units.{unitCycles}
 
 -- ---- The layout
@@ -68,7 +68,7 @@ dataOf version ds = refuseFirst NoTapForm (firstWithout version ds) (accepted (t
 
 -- a file with these data into `room` places, or refusal 2
 unfoldable pub putFile : (room version : ℕ) (bytes : List ℕ) → Outcome (List ℕ)
-putFile room version bytes = cond (ltb room (length (tapFile version bytes))) (refuse NoRoom 0) (accepted (tapFile version bytes))
+putFile room version bytes = ifRoom room (length (tapFile version bytes)) (accepted (tapFile version bytes))
 
 -- what is written into `room` places: refusals 1, 11, 13 and 2 in this order, else the file
 unfoldable pub writeTap : (room version : ℕ) (durations : List ℕ) → Outcome (List ℕ)

@@ -300,15 +300,15 @@ impl Run {
         answer
     }
 
-    pub fn shown_name(&mut self, bytes: &[u8]) -> Span {
+    pub fn shown_name(&mut self, bytes: &[u8]) -> Result<Span, Refusal> {
         let answer = library::shown_name(bytes);
         let expected = reference::shown_name(bytes);
-        let call = match (answer.offset, answer.length) {
-            (0, _) => "shown_name of no header",
-            (_, 0) => "shown_name of spaces",
-            _ => "shown_name",
+        let call = match answer {
+            Err(_) => "shown_name of no header",
+            Ok(Span { length: 0, .. }) => "shown_name of spaces",
+            Ok(_) => "shown_name",
         };
-        self.settle(call, &Ok(answer), &Ok(expected), &[], || {
+        self.settle(call, &answer, &expected, &[], || {
             format!("header {}", brief(bytes))
         });
         answer

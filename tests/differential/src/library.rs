@@ -4,18 +4,21 @@
 use crate::reference::{BlockRead, FileRead, Header, Refusal, Span, TapRead};
 
 #[repr(C)]
-struct TapePut {
-    refusal: u32,
+struct TapeRefusal {
+    number: u32,
     block: u32,
     place: u64,
+}
+
+#[repr(C)]
+struct TapePut {
+    refusal: TapeRefusal,
     count: u64,
 }
 
 #[repr(C)]
 struct TapeBlock {
-    refusal: u32,
-    block: u32,
-    place: u64,
+    refusal: TapeRefusal,
     n: u64,
     start: u64,
     end: u64,
@@ -23,9 +26,7 @@ struct TapeBlock {
 
 #[repr(C)]
 struct TapeFile {
-    refusal: u32,
-    block: u32,
-    place: u64,
+    refusal: TapeRefusal,
     kind: u32,
     start: u32,
     end: u32,
@@ -34,15 +35,14 @@ struct TapeFile {
 
 #[repr(C)]
 struct TapeTap {
-    refusal: u32,
-    block: u32,
-    place: u64,
+    refusal: TapeRefusal,
     version: u32,
     count: u64,
 }
 
 #[repr(C)]
 struct TapeSpan {
+    refusal: TapeRefusal,
     offset: u64,
     length: u64,
 }
@@ -114,26 +114,29 @@ extern "C" {
     fn tape_read_tap(file: *const u8, len: usize, out: *mut u32, room: usize) -> TapeTap;
 }
 
-/// Whether a call was accepted. A refusal must come with no numbers, and an
-/// acceptance with neither a block nor a place.
-fn accepted(refusal: u32, block: u32, place: u64, numbers: &[u64]) -> Result<(), Refusal> {
-    if refusal == 0 {
-        assert_eq!(
-            (block, place),
-            (0, 0),
-            "an accepted call names a block or a place"
+impl TapeRefusal {
+    /// Whether the call was accepted. A refusal must come with no numbers, and
+    /// an acceptance with neither a block nor a place.
+    fn accepted(self, numbers: &[u64]) -> Result<(), Refusal> {
+        if self.number == 0 {
+            assert_eq!(
+                (self.block, self.place),
+                (0, 0),
+                "an accepted call names a block or a place"
+            );
+            return Ok(());
+        }
+        assert!(
+            numbers.iter().all(|&number| number == 0),
+            "refusal {} comes with numbers {numbers:?}",
+            self.number
         );
-        return Ok(());
+        Err(Refusal {
+            number: self.number,
+            block: self.block,
+            place: size(self.place),
+        })
     }
-    assert!(
-        numbers.iter().all(|&number| number == 0),
-        "refusal {refusal} comes with numbers {numbers:?}"
-    );
-    Err(Refusal {
-        number: refusal,
-        block,
-        place: size(place),
-    })
 }
 
 fn size(number: u64) -> usize {
@@ -142,7 +145,7 @@ fn size(number: u64) -> usize {
 
 impl TapePut {
     fn answer(self) -> Result<usize, Refusal> {
-        accepted(self.refusal, self.block, self.place, &[self.count])?;
+        self.refusal.accepted(&[self.count])?;
         Ok(size(self.count))
     }
 }
@@ -150,7 +153,7 @@ impl TapePut {
 impl TapeBlock {
     fn answer(self) -> Result<BlockRead, Refusal> {
         let numbers = [self.n, self.start, self.end];
-        accepted(self.refusal, self.block, self.place, &numbers)?;
+        self.refusal.accepted(&numbers)?;
         let [n, start, end] = numbers.map(size);
         Ok(BlockRead { n, start, end })
     }
@@ -160,7 +163,7 @@ impl TapeFile {
     fn answer(self) -> Result<FileRead, Refusal> {
         let [kind, start, end] = [self.kind, self.start, self.end];
         let numbers = [kind.into(), start.into(), end.into(), self.stop];
-        accepted(self.refusal, self.block, self.place, &numbers)?;
+        self.refusal.accepted(&numbers)?;
         Ok(FileRead {
             header: Header {
                 kind: kind.try_into().expect("a type is a byte"),
@@ -175,11 +178,20 @@ impl TapeFile {
 impl TapeTap {
     fn answer(self) -> Result<TapRead, Refusal> {
         let numbers = [self.version.into(), self.count];
-        accepted(self.refusal, self.block, self.place, &numbers)?;
+        self.refusal.accepted(&numbers)?;
         Ok(TapRead {
             version: self.version.try_into().expect("a version is a byte"),
             count: size(self.count),
         })
+    }
+}
+
+impl TapeSpan {
+    fn answer(self) -> Result<Span, Refusal> {
+        let numbers = [self.offset, self.length];
+        self.refusal.accepted(&numbers)?;
+        let [offset, length] = numbers.map(size);
+        Ok(Span { offset, length })
     }
 }
 
@@ -288,13 +300,10 @@ pub fn unpack_header(bytes: &[u8]) -> Result<Header, Refusal> {
     Ok(read.header)
 }
 
-pub fn shown_name(bytes: &[u8]) -> Span {
+pub fn shown_name(bytes: &[u8]) -> Result<Span, Refusal> {
     // SAFETY: the pointer comes with the length of its slice.
     let span = unsafe { tape_shown_name(bytes.as_ptr(), bytes.len()) };
-    Span {
-        offset: size(span.offset),
-        length: size(span.length),
-    }
+    span.answer()
 }
 
 pub fn write_tap(durations: &[u32], version: u8, out: &mut [u8]) -> Result<usize, Refusal> {

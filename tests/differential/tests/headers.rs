@@ -10,7 +10,7 @@ const ANSWERS: [(&str, &[(u32, u32)]); 5] = [
     ("unpack_header", &[(0, 0), (1, 0), (8, 0)]),
     ("shown_name", &[(0, 0)]),
     ("shown_name of spaces", &[(0, 0)]),
-    ("shown_name of no header", &[(0, 0)]),
+    ("shown_name of no header", &[(1, 0), (8, 0)]),
 ];
 
 const SCENES: [Scene; 4] = [
@@ -59,16 +59,16 @@ fn limits_of_unpacking() {
         for kind in [0, 1, 5, 6] {
             bytes.iter_mut().take(1).for_each(|first| *first = kind);
             let _ = run.unpack_header(&bytes);
-            run.shown_name(&bytes);
+            let _ = run.shown_name(&bytes);
         }
     }
     for kind in 0..=255 {
         let mut bytes = random.bytes(HEADER);
         bytes[0] = kind;
         let _ = run.unpack_header(&bytes);
-        run.shown_name(&bytes);
+        let _ = run.shown_name(&bytes);
         bytes[5..].fill(b' ');
-        run.shown_name(&bytes);
+        let _ = run.shown_name(&bytes);
     }
     run.finish(&ANSWERS[1..]);
 }
@@ -83,9 +83,9 @@ fn every_end_of_a_shown_name() {
                 let mut bytes = [b' '; HEADER];
                 bytes[0] = kind;
                 bytes[5 + last] = other;
-                run.shown_name(&bytes);
+                let _ = run.shown_name(&bytes);
                 bytes[5..5 + last].fill(b'A');
-                run.shown_name(&bytes);
+                let _ = run.shown_name(&bytes);
             }
         }
     }
@@ -134,7 +134,7 @@ fn packed_bytes(random: &mut Random) -> [u8; HEADER] {
 fn packed_and_unpacked(run: &mut Run, random: &mut Random) {
     let bytes = packed_bytes(random);
     run.unpack_header(&bytes).expect("a sound header");
-    run.shown_name(&bytes);
+    let _ = run.shown_name(&bytes);
 }
 
 /// A header with a byte changed, or one byte too long or too short.
@@ -151,7 +151,7 @@ fn nearly_a_header(run: &mut Run, random: &mut Random) {
         _ => bytes.push(random.pick(&[0x00, 0x20, 0x41])),
     }
     let _ = run.unpack_header(&bytes);
-    run.shown_name(&bytes);
+    let _ = run.shown_name(&bytes);
 }
 
 fn any_bytes(run: &mut Run, random: &mut Random) {
@@ -162,5 +162,5 @@ fn any_bytes(run: &mut Run, random: &mut Random) {
         bytes[0] = some_type(random);
     }
     let _ = run.unpack_header(&bytes);
-    run.shown_name(&bytes);
+    let _ = run.shown_name(&bytes);
 }

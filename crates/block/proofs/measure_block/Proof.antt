@@ -2,17 +2,17 @@
 use native.Mathlib.Omega.{arith}
 use mathlib.Core.Path.{sym, _∙_}
 use borrow.Author.Needs.{needs}
-use Rattle.block.proofs.BlockLaws.{Within, size-right, leader-right}
-use Rattle.block.proofs.Writing.{size-refused, leader-refused, measured}
+use Rattle.block.proofs.BlockLaws.{Within, wrongSize-within, wrongLeader-within}
+use Rattle.block.proofs.Writing.{measureBlock-wrongSize, measureBlock-wrongLeader, measureBlock-count}
 use Rattle.block.proofs.measure_block.Statement.{statement}
 use Rattle.block.proofs.measure_block.Tie as tie
 
 -- payload and leader are small, so that the sums below fit
-sized : (c : tie.Else2) → let a = c .before .before .before .before .args in Within 1 8192 (a .n) × Within 64 65535 (a .leader)
+sized : (c : tie.Else2) → let args = c .before .before .before .before .args in Within 1 8192 (args .n) × Within 64 65535 (args .leader)
 sized c =
-    let l = c .before in
-    let w = l .before .before in
-    (size-right (w .before .args .n) (sym (w .wrong-size .ensures) ∙ l .before .if1 .left), leader-right (w .before .args .leader) (sym (l .wrong-leader .ensures) ∙ c .if2 .left))
+    let wrong-leader = c .before in
+    let wrong-size = wrong-leader .before .before in
+    (wrongSize-within (wrong-size .before .args .n) (sym (wrong-size .wrong-size .ensures) ∙ wrong-leader .before .if1 .left), wrongLeader-within (wrong-size .before .args .leader) (sym (wrong-leader .wrong-leader .ensures) ∙ c .if2 .left))
 
 wrong-size-requires : tie.Need-wrong-size-requires
 wrong-size-requires c κs = search needs
@@ -22,8 +22,8 @@ at-requires c κs = search needs
 
 returns : tie.Need-returns
 returns c =
-    let w = c .before .before in
-    size-refused (w .before .args .leader) (w .before .args .n) (sym (w .wrong-size .ensures) ∙ c .before .if1 .taken) (c .at .ensures)
+    let wrong-size = c .before .before in
+    measureBlock-wrongSize (wrong-size .before .args .leader) (wrong-size .before .args .n) (sym (wrong-size .wrong-size .ensures) ∙ c .before .if1 .taken) (c .at .ensures)
 
 wrong-leader-requires : tie.Need-wrong-leader-requires
 wrong-leader-requires c κs = search needs
@@ -33,10 +33,10 @@ at-requires-2 c κs = search needs
 
 returns-2 : tie.Need-returns-2
 returns-2 c =
-    let l = c .before .before in
-    let w = l .before .before in
-    leader-refused (w .before .args .leader) (w .before .args .n) (sym (w .wrong-size .ensures) ∙ l .before .if1 .left)
-    (sym (l .wrong-leader .ensures) ∙ c .before .if2 .taken) (c .at2 .ensures)
+    let wrong-leader = c .before .before in
+    let wrong-size = wrong-leader .before .before in
+    measureBlock-wrongLeader (wrong-size .before .args .leader) (wrong-size .before .args .n) (sym (wrong-size .wrong-size .ensures) ∙ wrong-leader .before .if1 .left)
+    (sym (wrong-leader .wrong-leader .ensures) ∙ c .before .if2 .taken) (c .at2 .ensures)
 
 add-t9 : tie.Need-add-t9
 add-t9 c = let s = sized c in omega arith
@@ -55,9 +55,9 @@ add-t13 c = let s = sized c in omega arith
 
 returns-3 : tie.Need-returns-3
 returns-3 c =
-    let l = c .before in
-    let w = l .before .before in
-    measured (w .before .args .leader) (w .before .args .n) (sym (w .wrong-size .ensures) ∙ l .before .if1 .left) (sym (l .wrong-leader .ensures) ∙ c .if2 .left)
+    let wrong-leader = c .before in
+    let wrong-size = wrong-leader .before .before in
+    measureBlock-count (wrong-size .before .args .leader) (wrong-size .before .args .n) (sym (wrong-size .wrong-size .ensures) ∙ wrong-leader .before .if1 .left) (sym (wrong-leader .wrong-leader .ensures) ∙ c .if2 .left)
     (omega arith)
 
 pub measure-block-spec : {M : Type 1} → statement M

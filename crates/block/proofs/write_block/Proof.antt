@@ -4,9 +4,9 @@ use mathlib.Core.Path.{sym, ap, _∙_}
 use borrow.Author.Needs.{needs}
 use denote.Ref.{now}
 use lib.ListN.{length}
-use Rattle.refusal.specs.Refusal.{putAnswer}
-use Rattle.block.proofs.BlockLaws.{measure-accepted}
-use Rattle.block.proofs.Writing.{unmeasured, no-room, whole}
+use Rattle.refusal.specs.Promise.{putAnswer}
+use Rattle.block.proofs.BlockLaws.{measureBlock-accepted}
+use Rattle.block.proofs.Writing.{writeBlock-unmeasured, writeBlock-noRoom, writeBlock-whole}
 use Rattle.block.proofs.write_block.Statement.{statement}
 use Rattle.block.proofs.write_block.Tie as tie
 
@@ -24,37 +24,37 @@ at-requires c κs = search needs
 
 returns : tie.Need-returns
 returns c =
-    let k = c .before .before .before in
-    let m = k .before .before in
-    let a = m .before .before .before .args in
-    no-room (now (a .out)) (a .leader) (now (a .payload)) (m .measure-block .ensures) (k .count .given .1) (c .before .if1 .taken) (c .at .ensures)
+    let arm = c .before .before .before in
+    let measure-block = arm .before .before in
+    let args = measure-block .before .before .before .args in
+    writeBlock-noRoom (now (args .out)) (args .leader) (now (args .payload)) (measure-block .measure-block .ensures) (arm .count .given .1) (c .before .if1 .taken) (c .at .ensures)
 
 put-block-requires : tie.Need-put-block-requires
 put-block-requires c κs =
-    let k = c .before .before .before in
-    let m = k .before .before in
-    let a = m .before .before .before .args in
-    let l = measure-accepted (a .leader) (length (now (a .payload))) (k .count .given .0 .0) (sym (m .measure-block .ensures) ∙ ap putAnswer (k .count .given .1)) in
+    let arm = c .before .before .before in
+    let measure-block = arm .before .before in
+    let args = measure-block .before .before .before .args in
+    let l = measureBlock-accepted (args .leader) (length (now (args .payload))) (arm .count .given .0 .0) (sym (measure-block .measure-block .ensures) ∙ ap putAnswer (arm .count .given .1)) in
     omega arith
 
 returns-2 : tie.Need-returns-2
 returns-2 c =
-    let k = c .before in
-    let m = k .before .before in
-    let a = m .before .before .before .args in
-    unmeasured (now (a .out)) (a .leader) (now (a .payload)) (m .measure-block .ensures) (k .r .given .0 .0) (k .r .given .1)
+    let arm = c .before in
+    let measure-block = arm .before .before in
+    let args = measure-block .before .before .before .args in
+    writeBlock-unmeasured (now (args .out)) (args .leader) (now (args .payload)) (measure-block .measure-block .ensures) (arm .r .given .0 .0) (arm .r .given .1)
 
 same-length : tie.Need-same-length
 same-length c = search needs
 
 returns-3 : tie.Need-returns-3
 returns-3 c =
-    let p = c .before .before in
-    let room = p .before .before in
-    let k = room .before .before in
-    let m = k .before .before in
-    let a = m .before .before .before .args in
-    whole (now (a .out)) (a .leader) (now (a .payload)) (m .measure-block .ensures) (k .count .given .1) (room .if1 .left) (p .put-block .ensures)
+    let put-block = c .before .before in
+    let room = put-block .before .before in
+    let arm = room .before .before in
+    let measure-block = arm .before .before in
+    let args = measure-block .before .before .before .args in
+    writeBlock-whole (now (args .out)) (args .leader) (now (args .payload)) (measure-block .measure-block .ensures) (arm .count .given .1) (room .if1 .left) (put-block .put-block .ensures)
 
 pub write-block-spec : {M : Type 1} → statement M
 write-block-spec =

@@ -1,6 +1,6 @@
 -- `byte::code_of` meets its contract.
-use Rattle.byte.specs.Decoder.{codeOf}
 use borrow.Author.Needs.{needs}
+use Rattle.byte.specs.private.Decoder.{codeOf}
 use Rattle.byte.proofs.code_of.Statement.{statement}
 use Rattle.byte.proofs.code_of.Tie as tie
 use Rattle.byte.proofs.code_of.Reads as reads

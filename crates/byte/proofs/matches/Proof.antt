@@ -1,18 +1,18 @@
-use borrow.Author.Needs.{needs}
 -- `byte::matches` meets its contract. The invariant: the pairs passed are as in the byte.
 use Prim.Native.Nat.{ℕ, _+_, _-_, _*_, _≤_, _<_}
 use native.Mathlib.Omega.{arith}
 use mathlib.Core.Path.{_≡_, sym, _∙_}
 use mathlib.Core.Bool.{true}
+use borrow.Author.Needs.{needs}
 use borrow.Author.Count.{below-more}
 use borrow.Author.Tests.{not-true, not-false}
 use denote.Ref.{now}
 use lib.ListN.{length-map}
 use Rattle.pulse.specs.Pulse.{classOf, classes}
 use Rattle.byte.specs.Byte.{pairAt}
-use Rattle.byte.specs.Decoder.{fits}
+use Rattle.byte.specs.private.Decoder.{fits}
 use Rattle.byte.proofs.PairLaws.{pair-there}
-use Rattle.byte.proofs.Matching.{matched, missed, too-few}
+use Rattle.byte.proofs.Matching.{matches-true, matches-false, matches-fewer}
 use Rattle.byte.proofs.matches.Statement.{statement}
 use Rattle.byte.proofs.matches.Tie as tie
 use Rattle.byte.proofs.matches.Reads as reads
@@ -30,8 +30,8 @@ abbrev μ-loop : tie.MeasureT-loop
 -- src/lib.rt:90:9
 returns : tie.Need-returns Inv-loop μ-loop
 returns c =
-    let a = c .before .before .args in
-    too-few (classes (a .t) (now (a .strip))) (a .at) (a .value) (omega (arith, length-map (now (a .strip)) (classOf (a .t))))
+    let args = c .before .before .args in
+    matches-fewer (classes (args .t) (now (args .strip))) (args .at) (args .value) (omega (arith, length-map (now (args .strip)) (classOf (args .t))))
 
 -- src/lib.rt:92:8
 sub-if2 : tie.Need-sub-if2 Inv-loop μ-loop
@@ -40,8 +40,8 @@ sub-if2 c = search needs
 -- src/lib.rt:93:9
 returns-2 : tie.Need-returns-2 Inv-loop μ-loop
 returns-2 c =
-    let a = c .before .before .before .args in
-    too-few (classes (a .t) (now (a .strip))) (a .at) (a .value) (omega (arith, length-map (now (a .strip)) (classOf (a .t))))
+    let args = c .before .before .before .args in
+    matches-fewer (classes (args .t) (now (args .strip))) (args .at) (args .value) (omega (arith, length-map (now (args .strip)) (classOf (args .t))))
 
 -- src/lib.rt:95:9
 code-of-requires : tie.Need-code-of-requires Inv-loop μ-loop
@@ -98,13 +98,13 @@ is-pair-requires c κs = search needs
 -- src/lib.rt:100:13
 returns-3 : tie.Need-returns-3 Inv-loop μ-loop
 returns-3 c =
-    let q = c .before in
-    let h = q .before .before .before .before .before in
-    let a = h .before .before .before .before .before .args in
-    let i = h .loop .k in
-    let e = q .before .pair-of .ensures ∙ pair-there (a .t) (now (a .strip)) (a .at + 2 * i) (omega arith) in
-    missed (classes (a .t) (now (a .strip))) (a .at) (a .value) i (omega arith)
-    (rw (← e, ← h .before .code-of .ensures) (sym (q .is-pair .ensures) ∙ not-true _ (c .if3 .taken)))
+    let is-pair = c .before in
+    let loop = is-pair .before .before .before .before .before in
+    let args = loop .before .before .before .before .before .args in
+    let i = loop .loop .k in
+    let e = is-pair .before .pair-of .ensures ∙ pair-there (args .t) (now (args .strip)) (args .at + 2 * i) (omega arith) in
+    matches-false (classes (args .t) (now (args .strip))) (args .at) (args .value) i (omega arith)
+    (rw (← e, ← loop .before .code-of .ensures) (sym (is-pair .is-pair .ensures) ∙ not-true _ (c .if3 .taken)))
 
 -- src/lib.rt:102:13
 add-k : tie.Need-add-k Inv-loop μ-loop
@@ -117,19 +117,19 @@ loop-less c = search needs
 -- src/lib.rt:97:5
 loop-again : tie.Need-loop-again Inv-loop μ-loop
 loop-again c =
-    let q = c .before in
-    let h = q .before .before .before .before .before in
-    let a = h .before .before .before .before .before .args in
-    let i = h .loop .k in
-    let e = q .before .pair-of .ensures ∙ pair-there (a .t) (now (a .strip)) (a .at + 2 * i) (omega arith) in
-    (omega arith, below-more _ i (h .loop .inv .1) (rw (← e, ← h .before .code-of .ensures) (sym (q .is-pair .ensures) ∙ not-false _ (c .if3 .left))))
+    let is-pair = c .before in
+    let loop = is-pair .before .before .before .before .before in
+    let args = loop .before .before .before .before .before .args in
+    let i = loop .loop .k in
+    let e = is-pair .before .pair-of .ensures ∙ pair-there (args .t) (now (args .strip)) (args .at + 2 * i) (omega arith) in
+    (omega arith, below-more _ i (loop .loop .inv .1) (rw (← e, ← loop .before .code-of .ensures) (sym (is-pair .is-pair .ensures) ∙ not-false _ (c .if3 .left))))
 
 -- src/lib.rt:86:1
 returns-4 : tie.Need-returns-4 Inv-loop μ-loop
 returns-4 c =
-    let h = c .before in
-    let a = h .before .before .before .before .before .args in
-    matched (classes (a .t) (now (a .strip))) (a .at) (a .value) (omega arith) (omega arith) (h .loop .inv .1)
+    let loop = c .before in
+    let args = loop .before .before .before .before .before .args in
+    matches-true (classes (args .t) (now (args .strip))) (args .at) (args .value) (omega arith) (omega arith) (loop .loop .inv .1)
 
 pub matches-spec : {M : Type 1} → statement M
 matches-spec =

@@ -19,16 +19,16 @@ same-length c = search needs
 
 returns : tie.Need-returns
 returns c =
-    let a = c .before .before .before .before .before .before .args in
-    c .before .before .put-pair .ensures ∙ ap (λ cs. sets (now (a .out)) (a .at) (pulses cs)) (coded-zero (a .bit) (c .before .before .before .before .if1 .taken))
+    let args = c .before .before .before .before .before .before .args in
+    c .before .before .put-pair .ensures ∙ ap (λ cs. sets (now (args .out)) (args .at) (pulses cs)) (coded-zero (args .bit) (c .before .before .before .before .if1 .taken))
 
 same-length-2 : tie.Need-same-length-2
 same-length-2 c = search needs
 
 returns-2 : tie.Need-returns-2
 returns-2 c =
-    let a = c .before .before .before .before .before .before .args in
-    c .before .before .put-pair2 .ensures ∙ ap (λ cs. sets (now (a .out)) (a .at) (pulses cs)) (coded-one (a .bit) (c .before .before .before .before .if1 .left))
+    let args = c .before .before .before .before .before .before .args in
+    c .before .before .put-pair2 .ensures ∙ ap (λ cs. sets (now (args .out)) (args .at) (pulses cs)) (coded-one (args .bit) (c .before .before .before .before .if1 .left))
 
 pub put-bit-spec : {M : Type 1} → statement M
 put-bit-spec =

@@ -4,7 +4,7 @@ use native.Mathlib.Omega.{arith}
 use borrow.Author.Needs.{needs}
 use denote.Ref.{now}
 use Rattle.lists.proofs.LoopLaws.{Copied, copy-begun}
-use Rattle.byte.specs.Nibbles.{nibble}
+use Rattle.byte.specs.private.Nibbles.{nibble}
 use Rattle.byte.proofs.NibbleLaws.{nibble-next, nibble-done}
 use Rattle.byte.proofs.put_nibble.Statement.{statement}
 use Rattle.byte.proofs.put_nibble.Tie as tie
@@ -16,7 +16,7 @@ abbrev μ-loop : tie.MeasureT-loop
 μ-loop out₀ at table n i₀ out i = 8 - i
 
 loop-holds : tie.Need-loop-holds Inv-loop μ-loop
-loop-holds c = let a = c .args in (omega arith, copy-begun (now (a .out)) (a .at) (nibble (a .n)))
+loop-holds c = let args = c .args in (omega arith, copy-begun (now (args .out)) (args .at) (nibble (args .n)))
 
 mul-out : tie.Need-mul-out Inv-loop μ-loop
 mul-out c = search needs
@@ -47,19 +47,19 @@ loop-less c = search needs
 
 loop-again : tie.Need-loop-again Inv-loop μ-loop
 loop-again c =
-    let h = c .before .before in
-    let s = h .before in
-    let a = s .args in
-    (omega arith, nibble-next (now (a .out)) (a .at) (a .n) (h .loop .inv .1) (s .pre .1) (omega arith) (c .before .loop-test .taken))
+    let loop = c .before .before in
+    let start = loop .before in
+    let args = start .args in
+    (omega arith, nibble-next (now (args .out)) (args .at) (args .n) (loop .loop .inv .1) (start .pre .1) (omega arith) (c .before .loop-test .taken))
 
 same-length : tie.Need-same-length Inv-loop μ-loop
 same-length c = search needs
 
 returns : tie.Need-returns Inv-loop μ-loop
 returns c =
-    let h = c .before in
-    let a = h .before .args in
-    nibble-done (now (a .out)) (a .at) (a .n) (h .loop .inv .1) (c .loop-test .left)
+    let loop = c .before in
+    let args = loop .before .args in
+    nibble-done (now (args .out)) (args .at) (args .n) (loop .loop .inv .1) (c .loop-test .left)
 
 pub put-nibble-spec : {M : Type 1} → statement M
 put-nibble-spec =

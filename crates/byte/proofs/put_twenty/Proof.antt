@@ -39,8 +39,8 @@ returns c =
     let three = four .before .before .before .before .before in
     let two = three .before .before .before .before in
     let one = two .before .before .before .before in
-    let a = one .before .before .before .args in
-    byte-put (now (a .out)) (a .at) (a .b) (omega arith) (one .put-pair .ensures) (two .put-nibble .ensures) (three .put-nibble2 .ensures)
+    let args = one .before .before .before .args in
+    byte-put (now (args .out)) (args .at) (args .b) (omega arith) (one .put-pair .ensures) (two .put-nibble .ensures) (three .put-nibble2 .ensures)
     (four .before .parity-bit .ensures) (four .put-bit .ensures)
 
 pub put-twenty-spec : {M : Type 1} → statement M

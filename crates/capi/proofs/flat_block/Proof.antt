@@ -6,18 +6,22 @@ use Rattle.capi.proofs.flat_block.Tie as tie
 enum-known-b : tie.Need-enum-known-b
 enum-known-b c = search needs
 
+no-refusal-requires : tie.Need-no-refusal-requires
+no-refusal-requires c κs = search needs
+
 enum-known-b-2 : tie.Need-enum-known-b-2
 enum-known-b-2 c = search needs
 
-number-requires : tie.Need-number-requires
-number-requires c κs = search needs
+flat-refusal-requires : tie.Need-flat-refusal-requires
+flat-refusal-requires c κs = search needs
 
 returns : tie.Need-returns
-returns c = rw (c .before .b .given .1)
+returns c = let answer = c .before .before .b in rw (answer .given .1, c .no-refusal .ensures)
 
 returns-2 : tie.Need-returns-2
-returns-2 c = rw (c .before .before .b2 .given .1, c .number .ensures)
+returns-2 c = let answer = c .before .before .b2 in rw (answer .given .1, c .flat-refusal .ensures)
 
 pub flat-block-spec : {M : Type 1} → statement M
 flat-block-spec =
-    tie.close (tie.spec enum-known-b enum-known-b-2 number-requires returns returns-2)
+    tie.close
+    (tie.spec enum-known-b no-refusal-requires enum-known-b-2 flat-refusal-requires returns returns-2)

@@ -1,7 +1,7 @@
--- `capi::tape_read_block` meets its contract: the answer is the view of what `block::read_block` promises, and the buffers are as that leaves them.
+-- `capi::tape_read_block` meets its contract: the answer is the view of what `block::read_block` promises, and the buffer is as that leaves it.
 use mathlib.Core.Path.{ap, _∙_}
-use Rattle.capi.specs.Flat.{flatBlock}
 use borrow.Author.Needs.{needs}
+use Rattle.capi.specs.Flat.{flatBlock}
 use Rattle.capi.proofs.tape_read_block.Statement.{statement}
 use Rattle.capi.proofs.tape_read_block.Tie as tie
 
@@ -15,7 +15,9 @@ same-length : tie.Need-same-length
 same-length c = search needs
 
 returns : tie.Need-returns
-returns c = (c .flat-block .ensures ∙ ap flatBlock (c .before .before .before .read-block .ensures .0), c .before .before .before .read-block .ensures .1)
+returns c =
+    let read-block = c .before .before .before .read-block in
+    (c .flat-block .ensures ∙ ap flatBlock (read-block .ensures .0), read-block .ensures .1)
 
 pub tape-read-block-spec : {M : Type 1} → statement M
 tape-read-block-spec =

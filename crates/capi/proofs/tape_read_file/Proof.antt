@@ -1,7 +1,7 @@
 -- `capi::tape_read_file` meets its contract: the answer is the view of what `file::read_file` promises, and the buffers are as that leaves them.
 use mathlib.Core.Path.{ap, _∙_}
-use Rattle.capi.specs.Flat.{flatFile}
 use borrow.Author.Needs.{needs}
+use Rattle.capi.specs.Flat.{flatFile}
 use Rattle.capi.proofs.tape_read_file.Statement.{statement}
 use Rattle.capi.proofs.tape_read_file.Tie as tie
 
@@ -18,7 +18,9 @@ same-length-2 : tie.Need-same-length-2
 same-length-2 c = search needs
 
 returns : tie.Need-returns
-returns c = (c .flat-file .ensures ∙ ap flatFile (c .before .before .before .before .before .read-file .ensures .0), c .before .before .before .before .before .read-file .ensures .1)
+returns c =
+    let read-file = c .before .before .before .before .before .read-file in
+    (c .flat-file .ensures ∙ ap flatFile (read-file .ensures .0), read-file .ensures .1)
 
 pub tape-read-file-spec : {M : Type 1} → statement M
 tape-read-file-spec =

@@ -1,7 +1,7 @@
--- `capi::tape_read_tap` meets its contract: the answer is the view of what `tap::read_tap` promises, and the buffers are as that leaves them.
+-- `capi::tape_read_tap` meets its contract: the answer is the view of what `tap::read_tap` promises, and the buffer is as that leaves it.
 use mathlib.Core.Path.{ap, _∙_}
-use Rattle.capi.specs.Flat.{flatTap}
 use borrow.Author.Needs.{needs}
+use Rattle.capi.specs.Flat.{flatTap}
 use Rattle.capi.proofs.tape_read_tap.Statement.{statement}
 use Rattle.capi.proofs.tape_read_tap.Tie as tie
 
@@ -15,7 +15,9 @@ same-length : tie.Need-same-length
 same-length c = search needs
 
 returns : tie.Need-returns
-returns c = (c .flat-tap .ensures ∙ ap flatTap (c .before .before .before .read-tap .ensures .0), c .before .before .before .read-tap .ensures .1)
+returns c =
+    let read-tap = c .before .before .before .read-tap in
+    (c .flat-tap .ensures ∙ ap flatTap (read-tap .ensures .0), read-tap .ensures .1)
 
 pub tape-read-tap-spec : {M : Type 1} → statement M
 tape-read-tap-spec = tie.close (tie.spec read-tap-requires flat-tap-requires same-length returns)

@@ -1,7 +1,7 @@
--- `capi::tape_write_tap` meets its contract: the answer is the view of what `tap::write_tap` promises, and the buffers are as that leaves them.
+-- `capi::tape_write_tap` meets its contract: the answer is the view of what `tap::write_tap` promises, and the buffer is as that leaves it.
 use mathlib.Core.Path.{ap, _∙_}
-use Rattle.capi.specs.Flat.{flatPut}
 use borrow.Author.Needs.{needs}
+use Rattle.capi.specs.Flat.{flatPut}
 use Rattle.capi.proofs.tape_write_tap.Statement.{statement}
 use Rattle.capi.proofs.tape_write_tap.Tie as tie
 
@@ -15,7 +15,9 @@ same-length : tie.Need-same-length
 same-length c = search needs
 
 returns : tie.Need-returns
-returns c = (c .flat-put .ensures ∙ ap flatPut (c .before .before .before .write-tap .ensures .0), c .before .before .before .write-tap .ensures .1)
+returns c =
+    let write-tap = c .before .before .before .write-tap in
+    (c .flat-put .ensures ∙ ap flatPut (write-tap .ensures .0), write-tap .ensures .1)
 
 pub tape-write-tap-spec : {M : Type 1} → statement M
 tape-write-tap-spec = tie.close (tie.spec write-tap-requires flat-put-requires same-length returns)

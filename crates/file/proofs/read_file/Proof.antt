@@ -2,7 +2,8 @@
 use borrow.Author.Needs.{needs}
 use denote.Ref.{now}
 use Rattle.pulse.specs.Pulse.{fixed, classes}
-use Rattle.file.proofs.Loading.{by-rules, no-header, with-header}
+use Rattle.file.proofs.ReaderLaws.{by-rules}
+use Rattle.file.proofs.Loading.{readFileBy-refused, readFileBy-header}
 use Rattle.file.proofs.read_file.Statement.{statement}
 use Rattle.file.proofs.read_file.Tie as tie
 
@@ -23,9 +24,9 @@ read-data-requires c κs = search needs
 
 returns : tie.Need-returns
 returns c =
-    let m = c .before .before .before .before in
-    let a = m .before .before .before .before .before .args in
-    no-header (by-rules (classes fixed (now (a .strip)))) (now (a .header)) (now (a .bytes)) (a .from) (m .read-block .ensures .0) (c .before .r .given .1)
+    let read-block = c .before .before .before .before in
+    let args = read-block .before .before .before .before .before .args in
+    readFileBy-refused (by-rules (classes fixed (now (args .strip)))) (now (args .header)) (now (args .bytes)) (args .from) (read-block .read-block .ensures .0) (c .before .r .given .1)
 
 same-length : tie.Need-same-length
 same-length c = search needs
@@ -35,12 +36,12 @@ same-length-2 c = search needs
 
 returns-2 : tie.Need-returns-2
 returns-2 c =
-    let d = c .before .before .before .before in
-    let x = d .before .before .before .before in
-    let m = x .before .before .before in
-    let a = m .before .before .before .before .before .args in
-    with-header (by-rules (classes fixed (now (a .strip)))) (now (a .header)) (now (a .bytes)) (a .from) (m .read-block .ensures .0) (d .read-data .result) (x .e .given .1)
-    (m .read-block .ensures .1) (d .read-data .ensures)
+    let read-data = c .before .before .before .before in
+    let accepted = read-data .before .before .before .before in
+    let read-block = accepted .before .before .before in
+    let args = read-block .before .before .before .before .before .args in
+    readFileBy-header (by-rules (classes fixed (now (args .strip)))) (now (args .header)) (now (args .bytes)) (args .from) (read-block .read-block .ensures .0) (read-data .read-data .result) (accepted .e .given .1)
+    (read-block .read-block .ensures .1) (read-data .read-data .ensures)
 
 pub read-file-spec : {M : Type 1} → statement M
 read-file-spec =

@@ -4,9 +4,10 @@ use mathlib.Core.Path.{sym, ap, _∙_}
 use borrow.Author.Needs.{needs}
 use denote.Ref.{now}
 use lib.ListN.{length}
-use Rattle.refusal.specs.Refusal.{refusalIn, putAnswer}
-use Rattle.block.proofs.BlockLaws.{size-right, leader-right, measure-accepted}
-use Rattle.file.proofs.Writing.{wrong-first, wrong-second, no-room, both}
+use Rattle.refusal.specs.Refusal.{inBlock}
+use Rattle.refusal.specs.Promise.{putAnswer}
+use Rattle.block.proofs.BlockLaws.{wrongSize-within, wrongLeader-within, measureBlock-accepted}
+use Rattle.file.proofs.Writing.{writeBlocks-headerLeader, writeBlocks-dataLeader, writeBlocks-noRoom, writeBlocks-both}
 use Rattle.file.proofs.write_blocks.Statement.{statement}
 use Rattle.file.proofs.write_blocks.Tie as tie
 
@@ -24,9 +25,9 @@ at-requires c κs = search needs
 
 returns : tie.Need-returns
 returns c =
-    let m = c .before .before .before in
-    let a = m .before .before .before .args in
-    wrong-first (now (a .out)) (a .leader0) (a .t1) (a .leader1) (now (a .bytes)) (m .measure-block .ensures) (c .before .enum-told .given .1) (c .at .ensures)
+    let measure-block = c .before .before .before in
+    let args = measure-block .before .before .before .args in
+    writeBlocks-headerLeader (now (args .out)) (args .leader0) (args .t1) (args .leader1) (now (args .bytes)) (measure-block .measure-block .ensures) (c .before .enum-told .given .1) (c .at .ensures)
 
 measure-block-requires-2 : tie.Need-measure-block-requires-2
 measure-block-requires-2 c κs = search needs
@@ -45,25 +46,25 @@ in-block-requires c κs = search needs
 
 returns-2 : tie.Need-returns-2
 returns-2 c =
-    let m₁ = c .before .before .before .before in
-    let first = m₁ .before .before in
-    let m = first .before .before in
-    let s = m .before .before .before in
-    let a = s .args in
-    wrong-second (now (a .out)) (a .leader0) (a .t1) (a .leader1) (now (a .bytes)) (m .measure-block .ensures) (first .first .given .1) (m₁ .measure-block2 .ensures) (s .pre)
-    (c .before .before .enum-told2 .given .1) (c .in-block .ensures ∙ ap (refusalIn 1) (c .before .at2 .ensures))
+    let measure-block2 = c .before .before .before .before in
+    let first = measure-block2 .before .before in
+    let measure-block = first .before .before in
+    let start = measure-block .before .before .before in
+    let args = start .args in
+    writeBlocks-dataLeader (now (args .out)) (args .leader0) (args .t1) (args .leader1) (now (args .bytes)) (measure-block .measure-block .ensures) (first .first .given .1) (measure-block2 .measure-block2 .ensures) (start .pre)
+    (c .before .before .enum-told2 .given .1) (c .in-block .ensures ∙ ap (inBlock 1) (c .before .at2 .ensures))
 
 add-count : tie.Need-add-count
 add-count c =
-    let m₁ = c .before .before .before in
-    let first = m₁ .before .before in
-    let m = first .before .before in
-    let a = m .before .before .before .args in
-    let one = measure-accepted (a .leader0) 192 (first .first .given .0 .0) (sym (m .measure-block .ensures) ∙ ap putAnswer (first .first .given .1)) in
-    let two = measure-accepted (a .leader1) (length (now (a .bytes))) (c .before .second .given .0 .0) (sym (m₁ .measure-block2 .ensures) ∙ ap putAnswer (c .before .second .given .1)) in
-    let size = size-right (length (now (a .bytes))) (two .size) in
-    let k₀ = leader-right (a .leader0) (one .leader) in
-    let k₁ = leader-right (a .leader1) (two .leader) in
+    let measure-block2 = c .before .before .before in
+    let first = measure-block2 .before .before in
+    let measure-block = first .before .before in
+    let args = measure-block .before .before .before .args in
+    let one = measureBlock-accepted (args .leader0) 192 (first .first .given .0 .0) (sym (measure-block .measure-block .ensures) ∙ ap putAnswer (first .first .given .1)) in
+    let two = measureBlock-accepted (args .leader1) (length (now (args .bytes))) (c .before .second .given .0 .0) (sym (measure-block2 .measure-block2 .ensures) ∙ ap putAnswer (c .before .second .given .1)) in
+    let size = wrongSize-within (length (now (args .bytes))) (two .size) in
+    let k₀ = wrongLeader-within (args .leader0) (one .leader) in
+    let k₁ = wrongLeader-within (args .leader1) (two .leader) in
     omega arith
 
 at-requires-3 : tie.Need-at-requires-3
@@ -72,13 +73,13 @@ at-requires-3 c κs = search needs
 returns-3 : tie.Need-returns-3
 returns-3 c =
     let second = c .before .before .before in
-    let m₁ = second .before .before in
-    let first = m₁ .before .before in
-    let m = first .before .before in
-    let s = m .before .before .before in
-    let a = s .args in
-    no-room (now (a .out)) (a .leader0) (a .t1) (a .leader1) (now (a .bytes)) (m .measure-block .ensures) (first .first .given .1) (m₁ .measure-block2 .ensures)
-    (second .second .given .1) (s .good .0 .1 .0 .1) (c .before .if1 .taken) (c .at3 .ensures)
+    let measure-block2 = second .before .before in
+    let first = measure-block2 .before .before in
+    let measure-block = first .before .before in
+    let start = measure-block .before .before .before in
+    let args = start .args in
+    writeBlocks-noRoom (now (args .out)) (args .leader0) (args .t1) (args .leader1) (now (args .bytes)) (measure-block .measure-block .ensures) (first .first .given .1) (measure-block2 .measure-block2 .ensures)
+    (second .second .given .1) (start .good .0 .1 .0 .1) (c .before .if1 .taken) (c .at3 .ensures)
 
 slice-aggregate-write-block : tie.Need-slice-aggregate-write-block
 slice-aggregate-write-block c = search needs
@@ -106,17 +107,17 @@ same-length c = search needs
 
 returns-4 : tie.Need-returns-4
 returns-4 c =
-    let b = c .before .before in
-    let w = b .before .before .before .before in
-    let room = w .before .before .before in
+    let write-block2 = c .before .before in
+    let write-block = write-block2 .before .before .before .before in
+    let room = write-block .before .before .before in
     let second = room .before .before in
-    let m₁ = second .before .before in
-    let first = m₁ .before .before in
-    let m = first .before .before in
-    let s = m .before .before .before in
-    let a = s .args in
-    both (now (a .out)) (a .leader0) (a .t1) (a .leader1) (now (a .bytes)) (m .measure-block .ensures) (first .first .given .1) (m₁ .measure-block2 .ensures)
-    (second .second .given .1) (s .good .0 .1 .0 .1) (room .if1 .left) (w .write-block .ensures .1) (b .write-block2 .ensures .1)
+    let measure-block2 = second .before .before in
+    let first = measure-block2 .before .before in
+    let measure-block = first .before .before in
+    let start = measure-block .before .before .before in
+    let args = start .args in
+    writeBlocks-both (now (args .out)) (args .leader0) (args .t1) (args .leader1) (now (args .bytes)) (measure-block .measure-block .ensures) (first .first .given .1) (measure-block2 .measure-block2 .ensures)
+    (second .second .given .1) (start .good .0 .1 .0 .1) (room .if1 .left) (write-block .write-block .ensures .1) (write-block2 .write-block2 .ensures .1)
 
 pub write-blocks-spec : {M : Type 1} → statement M
 write-blocks-spec =

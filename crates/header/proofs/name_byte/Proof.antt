@@ -11,10 +11,10 @@ shared-slice-read-result : tie.Need-shared-slice-read-result
 shared-slice-read-result c = search needs
 
 returns : tie.Need-returns
-returns c = let a = c .before .before .args in getD-within (now (a .name)) (a .i) 0 0x20 (c .before .if1 .taken)
+returns c = let args = c .before .before .args in getD-within (now (args .name)) (args .i) 0 0x20 (c .before .if1 .taken)
 
 returns-2 : tie.Need-returns-2
-returns-2 c = let a = c .before .args in sym (List·getD-eq-default (now (a .name)) 0x20 (c .if1 .left))
+returns-2 c = let args = c .before .args in sym (List·getD-eq-default (now (args .name)) 0x20 (c .if1 .left))
 
 pub name-byte-spec : {M : Type 1} → statement M
 name-byte-spec = tie.close (tie.spec shared-slice-read-result returns returns-2)

@@ -29,8 +29,8 @@ shared-slice-read-if1 c = search needs
 
 returns : tie.Need-returns Inv-loop μ-loop
 returns c =
-    let h = c .before .before .before in
-    shown-here (now (h .before .args .header)) (h .loop .n) (c .before .before .loop-test .taken) (c .if1 .taken) ∙ h .loop .inv .1
+    let loop = c .before .before .before in
+    shown-here (now (loop .before .args .header)) (loop .loop .n) (c .before .before .loop-test .taken) (c .if1 .taken) ∙ loop .loop .inv .1
 
 sub-n : tie.Need-sub-n Inv-loop μ-loop
 sub-n c = search needs
@@ -40,15 +40,15 @@ loop-less c = search needs
 
 loop-again : tie.Need-loop-again Inv-loop μ-loop
 loop-again c =
-    let h = c .before .before .before in
-    (omega arith, shown-shorter (now (h .before .args .header)) (h .loop .n) (c .before .before .loop-test .taken) (c .if1 .left) ∙ h .loop .inv .1)
+    let loop = c .before .before .before in
+    (omega arith, shown-shorter (now (loop .before .args .header)) (loop .loop .n) (c .before .before .loop-test .taken) (c .if1 .left) ∙ loop .loop .inv .1)
 
 returns-2 : tie.Need-returns-2 Inv-loop μ-loop
 unfolding shownCount
 returns-2 c =
-    let h = c .before in
-    let z : h .loop .n ≡ 0 = omega arith in
-    rw z at (h .loop .inv .1)
+    let loop = c .before in
+    let z : loop .loop .n ≡ 0 = omega arith in
+    rw z at (loop .loop .inv .1)
 
 pub shown-count-spec : {M : Type 1} → statement M
 shown-count-spec =

@@ -5,19 +5,19 @@ use mathlib.Core.Path.{_≡_}
 use borrow.Author.Needs.{needs}
 use denote.Ref.{now}
 use lib.ListN.{length}
-use Rattle.header.proofs.HeaderLaws.{shown-count}
-use Rattle.header.proofs.Unpacking.{shown-none, shown-long, shown-some}
+use Rattle.header.proofs.HeaderLaws.{shownCount-shown}
+use Rattle.header.proofs.Unpacking.{shownName-refused, shownName-long, shownName-accepted}
 use Rattle.header.proofs.shown_name.Statement.{statement}
 use Rattle.header.proofs.shown_name.Tie as tie
 
 -- the header is whole, and at most sixteen bytes are shown
 long : (c : tie.After-enum-told) → length (now (c .before .before .before .before .args .header)) ≡ 192
 long c =
-    let u = c .before .before in
-    shown-long (now (u .before .before .args .header)) (u .unpack-header .ensures) (c .enum-told .given .1)
+    let unpack-header = c .before .before in
+    shownName-long (now (unpack-header .before .before .args .header)) (unpack-header .unpack-header .ensures) (c .enum-told .given .1)
 
 count : (c : tie.After-shown-count) → c .shown-count .result ≤ 16
-count c = rw (c .shown-count .ensures) (shown-count (now (c .before .before .before .before .before .args .header)) 16 .high)
+count c = rw (c .shown-count .ensures) (shownCount-shown (now (c .before .before .before .before .before .args .header)) 16 .high)
 
 unpack-header-requires : tie.Need-unpack-header-requires
 unpack-header-requires c κs = search needs
@@ -33,9 +33,9 @@ slice-aggregate-result c = search needs
 
 returns : tie.Need-returns
 returns c =
-    let u = c .before .before .before in
-    let h = u .before .before .args .header in
-    shown-none (now h) (u .unpack-header .ensures) (c .before .enum-told2 .given .1) (h .ptr)
+    let unpack-header = c .before .before .before in
+    let h = unpack-header .before .before .args .header in
+    shownName-refused (now h) (unpack-header .unpack-header .ensures) (c .before .enum-told2 .given .1) (h .ptr)
 
 shown-count-requires : tie.Need-shown-count-requires
 shown-count-requires c κs = let l = long c in omega arith
@@ -54,10 +54,10 @@ part-result-end c = let l = count c in let m = long (c .before) in omega arith
 
 returns-2 : tie.Need-returns-2
 returns-2 c =
-    let s = c .before in
-    let u = s .before .before .before in
-    let h = u .before .before .args .header in
-    shown-some (now h) (u .unpack-header .ensures) (s .before .enum-told .given .1) (s .shown-count .ensures) (h .ptr)
+    let shown-count = c .before in
+    let unpack-header = shown-count .before .before .before in
+    let h = unpack-header .before .before .args .header in
+    shownName-accepted (now h) (unpack-header .unpack-header .ensures) (shown-count .before .enum-told .given .1) (shown-count .shown-count .ensures) (h .ptr)
 
 pub shown-name-spec : {M : Type 1} → statement M
 shown-name-spec =

@@ -2,7 +2,7 @@
 use mathlib.Core.Path.{sym, _∙_}
 use borrow.Author.Needs.{needs}
 use denote.Ref.{now}
-use Rattle.header.proofs.Unpacking.{wrong-size, unknown-type, unpacked}
+use Rattle.header.proofs.Unpacking.{unpackHeader-wrongSize, unpackHeader-wrongType, unpackHeader-accepted}
 use Rattle.header.proofs.unpack_header.Statement.{statement}
 use Rattle.header.proofs.unpack_header.Tie as tie
 
@@ -10,7 +10,7 @@ at-requires : tie.Need-at-requires
 at-requires c κs = search needs
 
 returns : tie.Need-returns
-returns c = wrong-size (now (c .before .before .before .args .header)) (c .before .if1 .taken) (c .at .ensures)
+returns c = unpackHeader-wrongSize (now (c .before .before .before .args .header)) (c .before .if1 .taken) (c .at .ensures)
 
 shared-slice-read-wrong-type : tie.Need-shared-slice-read-wrong-type
 shared-slice-read-wrong-type c = search needs
@@ -23,18 +23,18 @@ at-requires-2 c κs = search needs
 
 returns-2 : tie.Need-returns-2
 returns-2 c =
-    let w = c .before .before in
-    let e = w .before .before in
-    unknown-type (now (e .before .before .args .header)) (e .if1 .left) (sym (w .wrong-type .ensures) ∙ c .before .if2 .taken) (c .at2 .ensures)
+    let wrong-type = c .before .before in
+    let test = wrong-type .before .before in
+    unpackHeader-wrongType (now (test .before .before .args .header)) (test .if1 .left) (sym (wrong-type .wrong-type .ensures) ∙ c .before .if2 .taken) (c .at2 .ensures)
 
-fields-in-requires : tie.Need-fields-in-requires
-fields-in-requires c κs = search needs
+fields-of-requires : tie.Need-fields-of-requires
+fields-of-requires c κs = search needs
 
 returns-3 : tie.Need-returns-3
 returns-3 c =
-    let w = c .before .before in
-    let e = w .before .before in
-    unpacked (now (e .before .before .args .header)) (e .if1 .left) (sym (w .wrong-type .ensures) ∙ c .before .if2 .left) (c .fields-in .ensures)
+    let wrong-type = c .before .before in
+    let test = wrong-type .before .before in
+    unpackHeader-accepted (now (test .before .before .args .header)) (test .if1 .left) (sym (wrong-type .wrong-type .ensures) ∙ c .before .if2 .left) (c .fields-of .ensures)
 
 pub unpack-header-spec : {M : Type 1} → statement M
 unpack-header-spec =
@@ -46,5 +46,5 @@ unpack-header-spec =
     wrong-type-requires
     at-requires-2
     returns-2
-    fields-in-requires
+    fields-of-requires
     returns-3)

@@ -6,11 +6,11 @@ use borrow.Fn.Kinds.{In}
 use borrow.Fn.PlainCycle.{Measures, is, falls, and}
 use denote.Ref.{now}
 use Rattle.listing.proofs.LineLaws.{append-length, nothing-put, last-put, more-put, more-room}
+use Rattle.listing.proofs.put_digits.Kinds as put-digits-kinds
+use Rattle.listing.proofs.+put_digits.{statement}
 use Rattle.listing.proofs.digit_of.Reads as digit-of-reads
 use Rattle.listing.proofs.put_digits.Reads as put-digits
-use Rattle.listing.proofs.put_digits.Kinds as put-digits-kinds
 use Rattle.listing.proofs.+put_digits.Lts-put_digits as put-digits-lts
-use Rattle.listing.proofs.+put_digits.{statement}
 use Rattle.listing.proofs.+put_digits.Tie.{close}
 
 abbrev μ-put-digits : Measures 1 put-digits-kinds.ps ℕ
@@ -31,7 +31,7 @@ put-digits-returns : (t : ℕ) → put-digits-lts.Need-returns (
   put-digits-below t,
   put-digits.Post,
 ) (put-digits-at t) put-digits.Post
-put-digits-returns t c = let a = c .before .before .args in nothing-put (now (a .out)) (a .at) (a .n) (c .if1 .taken)
+put-digits-returns t c = let args = c .before .before .args in nothing-put (now (args .out)) (args .at) (args .n) (c .if1 .taken)
 
 put-digits-digit-of-requires : (t : ℕ) → put-digits-lts.Need-digit-of-requires (
   digit-of-reads.Asked,
@@ -71,7 +71,7 @@ put-digits-returns-2 : (t : ℕ) → put-digits-lts.Need-returns-2 (
   put-digits-below t,
   put-digits.Post,
 ) (put-digits-at t) put-digits.Post
-put-digits-returns-2 t c = let a = c .before .before .before .before .args in last-put (now (a .out)) (a .at) (a .most) (a .n) (c .before .before .if1 .left) (c .before .if2 .taken) (c .digit-of .ensures)
+put-digits-returns-2 t c = let args = c .before .before .before .before .args in last-put (now (args .out)) (args .at) (args .most) (args .n) (c .before .before .if1 .left) (c .before .if2 .taken) (c .digit-of .ensures)
 
 put-digits-sub-put-digits : (t : ℕ) → put-digits-lts.Need-sub-put-digits (
   digit-of-reads.Asked,
@@ -87,7 +87,7 @@ put-digits-put-digits-requires : (t : ℕ) → put-digits-lts.Need-put-digits-re
   put-digits-below t,
   put-digits.Post,
 ) (put-digits-at t) put-digits.Post
-put-digits-put-digits-requires t c κs = let s = c .before .before .before .before in let n = c .before .before .if1 .left in (omega (arith, s .pre .0), omega (arith, s .pre .1))
+put-digits-put-digits-requires t c κs = let start = c .before .before .before .before in let n = c .before .before .if1 .left in (omega (arith, start .pre .0), omega (arith, start .pre .1))
 
 put-digits-digit-of-requires-2 : (t : ℕ) → put-digits-lts.Need-digit-of-requires-2 (
   digit-of-reads.Asked,
@@ -104,11 +104,11 @@ put-digits-slice-write-out-2 : (t : ℕ) → put-digits-lts.Need-slice-write-out
   put-digits.Post,
 ) (put-digits-at t) put-digits.Post
 put-digits-slice-write-out-2 t c =
-    let p = c .before .before .before in
-    let e = p .before .before in
-    let s = e .before .before .before in
-    let a = s .args in
-    more-room (now (a .out)) (a .at) (a .most) (a .n) (e .before .if1 .left) (p .put-digits .ensures) (s .pre .1)
+    let at-put-digits = c .before .before .before in
+    let e = at-put-digits .before .before in
+    let start = e .before .before .before in
+    let args = start .args in
+    more-room (now (args .out)) (args .at) (args .most) (args .n) (e .before .if1 .left) (at-put-digits .put-digits .ensures) (start .pre .1)
 
 put-digits-add-result-2 : (t : ℕ) → put-digits-lts.Need-add-result-2 (
   digit-of-reads.Asked,
@@ -117,12 +117,12 @@ put-digits-add-result-2 : (t : ℕ) → put-digits-lts.Need-add-result-2 (
   put-digits.Post,
 ) (put-digits-at t) put-digits.Post
 put-digits-add-result-2 t c =
-    let p = c .before .before .before in
-    let e = p .before .before in
-    let s = e .before .before .before in
-    let a = s .args in
-    let r = more-room (now (a .out)) (a .at) (a .most) (a .n) (e .before .if1 .left) (p .put-digits .ensures) (s .pre .1) in
-    let l = append-length (p .put-digits .ensures) in
+    let at-put-digits = c .before .before .before in
+    let e = at-put-digits .before .before in
+    let start = e .before .before .before in
+    let args = start .args in
+    let r = more-room (now (args .out)) (args .at) (args .most) (args .n) (e .before .if1 .left) (at-put-digits .put-digits .ensures) (start .pre .1) in
+    let l = append-length (at-put-digits .put-digits .ensures) in
     omega arith
 
 put-digits-same-length-2 : (t : ℕ) → put-digits-lts.Need-same-length-2 (
@@ -140,11 +140,11 @@ put-digits-returns-3 : (t : ℕ) → put-digits-lts.Need-returns-3 (
   put-digits.Post,
 ) (put-digits-at t) put-digits.Post
 put-digits-returns-3 t c =
-    let p = c .before .before .before in
-    let e = p .before .before in
-    let s = e .before .before .before in
-    let a = s .args in
-    more-put (now (a .out)) (a .at) (a .most) (a .n) (e .before .if1 .left) (p .put-digits .ensures) (e .if2 .left) (c .digit-of2 .ensures)
+    let at-put-digits = c .before .before .before in
+    let test2 = at-put-digits .before .before in
+    let start = test2 .before .before .before in
+    let args = start .args in
+    more-put (now (args .out)) (args .at) (args .most) (args .n) (test2 .before .if1 .left) (at-put-digits .put-digits .ensures) (test2 .if2 .left) (c .digit-of2 .ensures)
 
 pub +put-digits-spec : {M : Type 1} → statement M
 +put-digits-spec = close μ-put-digits λ t. put-digits-lts.spec (

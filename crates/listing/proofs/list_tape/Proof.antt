@@ -5,7 +5,7 @@ use borrow.Author.Needs.{needs}
 use denote.Ref.{now}
 use lib.ListN.{replicate, length-replicate}
 use Rattle.listing.proofs.LineLaws.{width-text}
-use Rattle.listing.proofs.Listed.{listing-told, listed}
+use Rattle.listing.proofs.Listed.{listing-answer, listing-put}
 use Rattle.listing.proofs.list_tape.Statement.{statement}
 use Rattle.listing.proofs.list_tape.Tie as tie
 
@@ -23,11 +23,11 @@ put-listing-requires c κs = search needs
 
 returns : tie.Need-returns
 returns c =
-    let l = c .before .before .before .before in
-    let a = l .before .before .before .args in
-    let t = listing-told (now (a .file)) (replicate 192 0) (length-replicate {A = ℕ} 192 0) (l .load .result) (l .load .last .1 .0) (l .load .ensures) in
-    let w = width-text (l .load .result) (l .load .last .1 .0) in
-    listed (now (a .file)) (now (a .out)) t (c .put-listing .ensures) (search needs) (omega arith)
+    let load = c .before .before .before .before in
+    let args = load .before .before .before .args in
+    let t = listing-answer (now (args .file)) (replicate 192 0) (length-replicate {A = ℕ} 192 0) (load .load .result) (load .load .last .1 .0) (load .load .ensures) in
+    let w = width-text (load .load .result) (load .load .last .1 .0) in
+    listing-put (now (args .file)) (now (args .out)) t (c .put-listing .ensures) (search needs) (omega arith)
 
 pub list-tape-spec : {M : Type 1} → statement M
 list-tape-spec =

@@ -5,7 +5,7 @@ use borrow.Author.Needs.{needs}
 use denote.Ref.{now}
 use lib.ListN.{replicate, length-replicate}
 use lib.Seq.{length-take-le}
-use Rattle.listing.proofs.Listed.{too-long, no-tape, count-within, loaded}
+use Rattle.listing.proofs.Listed.{fileIn-wrongSize, fileIn-noTape, count-within, fileIn-read}
 use Rattle.listing.proofs.load.Statement.{statement}
 use Rattle.listing.proofs.load.Tie as tie
 
@@ -14,9 +14,9 @@ at-requires c κs = search needs
 
 returns : tie.Need-returns
 returns c =
-    let t = c .before in
-    let a = t .before .before .before .args in
-    too-long (now (a .file)) (now (a .header)) (t .if1 .taken) (c .at .ensures)
+    let test = c .before in
+    let args = test .before .before .before .args in
+    fileIn-wrongSize (now (args .file)) (now (args .header)) (test .if1 .taken) (c .at .ensures)
 
 slice-aggregate-read-tap : tie.Need-slice-aggregate-read-tap
 slice-aggregate-read-tap c = search needs
@@ -32,19 +32,19 @@ enum-known-t c = search needs
 
 array-share-prefix-strip : tie.Need-array-share-prefix-strip
 array-share-prefix-strip c =
-    let k = c .before in
-    let t = k .before .before .before in
-    let e = t .before .before in
-    let a = e .before .before .before .args in
-    count-within (now (a .file)) (now (a .header)) (e .if1 .left) (t .read-tap .ensures) (k .t .given .1)
+    let arm = c .before in
+    let read-tap = arm .before .before .before in
+    let test = read-tap .before .before in
+    let args = test .before .before .before .args in
+    count-within (now (args .file)) (now (args .header)) (test .if1 .left) (read-tap .read-tap .ensures) (arm .t .given .1)
 
 slice-aggregate-read-file : tie.Need-slice-aggregate-read-file
 slice-aggregate-read-file c =
-    let k = c .before .before in
-    let t = k .before .before .before in
-    let e = t .before .before in
-    let a = e .before .before .before .args in
-    sym (length-take-le (k .t .given .0 .0 .count) (t .read-tap .last .1 .0) (count-within (now (a .file)) (now (a .header)) (e .if1 .left) (t .read-tap .ensures) (k .t .given .1)))
+    let arm = c .before .before in
+    let read-tap = arm .before .before .before in
+    let test = read-tap .before .before in
+    let args = test .before .before .before .args in
+    sym (length-take-le (arm .t .given .0 .0 .count) (read-tap .read-tap .last .1 .0) (count-within (now (args .file)) (now (args .header)) (test .if1 .left) (read-tap .read-tap .ensures) (arm .t .given .1)))
 
 slice-aggregate-read-file-2 : tie.Need-slice-aggregate-read-file-2
 slice-aggregate-read-file-2 c = search needs
@@ -54,24 +54,24 @@ read-file-requires c κs = search needs
 
 returns-2 : tie.Need-returns-2
 returns-2 c =
-    let k = c .before in
-    let t = k .before .before .before in
-    let e = t .before .before in
-    let a = e .before .before .before .args in
-    no-tape (now (a .file)) (now (a .header)) (e .if1 .left) (t .read-tap .ensures) (k .r .given .1)
+    let arm = c .before in
+    let read-tap = arm .before .before .before in
+    let test = read-tap .before .before in
+    let args = test .before .before .before .args in
+    fileIn-noTape (now (args .file)) (now (args .header)) (test .if1 .left) (read-tap .read-tap .ensures) (arm .r .given .1)
 
 same-length : tie.Need-same-length
 same-length c = search needs
 
 returns-3 : tie.Need-returns-3
 returns-3 c =
-    let f = c .before .before .before in
-    let k = f .before .before .before .before .before in
-    let t = k .before .before .before in
-    let e = t .before .before in
-    let s = e .before .before .before in
-    let a = s .args in
-    loaded (now (a .file)) (now (a .header)) (e .if1 .left) (t .read-tap .ensures) (k .t .given .1) (f .read-file .result) (replicate 8192 0) (s .pre) (length-replicate {A = ℕ} 8192 0) (f .read-file .ensures)
+    let read-file = c .before .before .before in
+    let arm = read-file .before .before .before .before .before in
+    let read-tap = arm .before .before .before in
+    let test = read-tap .before .before in
+    let start = test .before .before .before in
+    let args = start .args in
+    fileIn-read (now (args .file)) (now (args .header)) (test .if1 .left) (read-tap .read-tap .ensures) (arm .t .given .1) (read-file .read-file .result) (replicate 8192 0) (start .pre) (length-replicate {A = ℕ} 8192 0) (read-file .read-file .ensures)
 
 pub load-spec : {M : Type 1} → statement M
 load-spec =

@@ -54,9 +54,9 @@ same-length c = search needs
 
 returns : tie.Need-returns
 returns c =
-    let b = c .before .before in
-    let a = b .before .before .before .args in
-    address-put (now (a .out)) (a .at) (a .address) (b .before .digit-of .ensures) (b .digit-of2 .ensures) (c .before .digit-of3 .ensures) (c .digit-of4 .ensures)
+    let digit-of2 = c .before .before in
+    let args = digit-of2 .before .before .before .args in
+    address-put (now (args .out)) (args .at) (args .address) (digit-of2 .before .digit-of .ensures) (digit-of2 .digit-of2 .ensures) (c .before .digit-of3 .ensures) (c .digit-of4 .ensures)
 
 pub put-address-spec : {M : Type 1} → statement M
 put-address-spec =

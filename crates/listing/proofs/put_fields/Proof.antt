@@ -22,7 +22,7 @@ start-of c = c .before .before .before .before
 abbrev end-of : tie.After-put-number2 → tie.After-put-address2
 end-of c = c .before .before .before .before .before
 
-abbrev count-of : tie.After-put-name → tie.After-put-number2
+abbrev count-of : tie.After-put-printed → tie.After-put-number2
 count-of c = c .before .before .before .before
 
 abbrev width : tie.After-put-number → ℕ
@@ -47,10 +47,10 @@ after-count c =
     let k = kind-of (start-of (end-of c)) in
     append-room (c .put-number2 .ensures) 21 (1 + width k) (width-number _ 0x20) (omega (arith, after-end (end-of c)))
 
-after-name : (c : tie.After-put-name) → c .put-name .result + 1 ≤ length (c .put-name .last .1 .0)
+after-name : (c : tie.After-put-printed) → c .put-printed .result + 1 ≤ length (c .put-printed .last .1 .0)
 after-name c =
     let name = now (lent (kind-of (start-of (end-of (count-of c)))) .args .name) in
-    append-room (c .put-name .ensures) (length name) 1 (omega (arith, length-map name printed)) (omega (arith, after-count (count-of c)))
+    append-room (c .put-printed .ensures) (length name) 1 (omega (arith, length-map name printed)) (omega (arith, after-count (count-of c)))
 
 cast-put-number : tie.Need-cast-put-number
 cast-put-number c = search needs
@@ -70,8 +70,8 @@ data-bytes-requires c κs = search needs
 put-number-requires-2 : tie.Need-put-number-requires-2
 put-number-requires-2 c κs = omega (arith, after-end (c .before .before .before .before))
 
-put-name-requires : tie.Need-put-name-requires
-put-name-requires c κs = omega (arith, after-count (c .before .before .before))
+put-printed-requires : tie.Need-put-printed-requires
+put-printed-requires c κs = omega (arith, after-count (c .before .before .before))
 
 slice-aggregate-put-text : tie.Need-slice-aggregate-put-text
 slice-aggregate-put-text c = search needs
@@ -84,15 +84,15 @@ same-length c = search needs
 
 returns : tie.Need-returns
 returns c =
-    let t = c .before .before in
-    let n = t .before .before .before .before .before in
-    let m = count-of n in
+    let put-text = c .before .before in
+    let put-printed = put-text .before .before .before .before .before in
+    let m = count-of put-printed in
     let e = end-of m in
     let b = start-of e in
     let k = kind-of b in
     let a = lent k .args in
     fields-put (a .fields) (now (a .name)) (k .put-number .ensures) (b .put-address .ensures) (e .put-address2 .ensures) (m .before .before .data-bytes .ensures)
-    (m .put-number2 .ensures) (n .put-name .ensures) (t .put-text .ensures)
+    (m .put-number2 .ensures) (put-printed .put-printed .ensures) (put-text .put-text .ensures)
 
 pub put-fields-spec : {M : Type 1} → statement M
 put-fields-spec =
@@ -104,7 +104,7 @@ put-fields-spec =
     put-address-requires-2
     data-bytes-requires
     put-number-requires-2
-    put-name-requires
+    put-printed-requires
     slice-aggregate-put-text
     put-text-requires
     same-length

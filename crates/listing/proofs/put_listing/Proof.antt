@@ -3,7 +3,7 @@ use native.Mathlib.Omega.{arith}
 use borrow.Author.Needs.{needs}
 use denote.Ref.{now}
 use Rattle.lists.specs.Text.{ascii}
-use Rattle.header.proofs.HeaderLaws.{width-shown}
+use Rattle.header.proofs.HeaderLaws.{shownName-width}
 use Rattle.listing.proofs.LineLaws.{append-room, refusal-listed, file-listed}
 use Rattle.listing.proofs.put_listing.Statement.{statement}
 use Rattle.listing.proofs.put_listing.Tie as tie
@@ -28,11 +28,11 @@ shown-name-requires c κs = search needs
 
 put-fields-requires : tie.Need-put-fields-requires
 put-fields-requires c κs =
-    let n = c .before in
-    let t = n .before .before .before .before .before .before .before in
-    let s = n .shown-name .ensures .0 in
-    let w = width-shown (now (t .before .before .before .before .before .args .header)) in
-    let r = append-room (t .put-text .ensures) 26 71 (omega arith) (omega (arith, t .before .before .before .before .before .pre)) in
+    let shown-name = c .before in
+    let put-text = shown-name .before .before .before .before .before .before .before in
+    let s = shown-name .shown-name .ensures .0 in
+    let w = shownName-width (now (put-text .before .before .before .before .before .args .header)) in
+    let r = append-room (put-text .put-text .ensures) 26 71 (omega arith) (omega (arith, put-text .before .before .before .before .before .pre)) in
     rw s (omega arith)
 
 same-length : tie.Need-same-length
@@ -41,10 +41,10 @@ same-length c = search needs
 returns : tie.Need-returns
 unfolding ascii
 returns c =
-    let r = c .before .before in
-    let k = r .before .before .before in
-    let t = k .before .before .before .before in
-    refusal-listed (t .put-text .ensures) (now (t .before .before .before .before .before .args .header)) (k .answer .given .1) (r .put-refusal .ensures)
+    let put-refusal = c .before .before in
+    let arm = put-refusal .before .before .before in
+    let put-text = arm .before .before .before .before in
+    refusal-listed (put-text .put-text .ensures) (now (put-text .before .before .before .before .before .args .header)) (arm .answer .given .1) (put-refusal .put-refusal .ensures)
 
 same-length-2 : tie.Need-same-length-2
 same-length-2 c = search needs
@@ -52,11 +52,11 @@ same-length-2 c = search needs
 returns-2 : tie.Need-returns-2
 unfolding ascii
 returns-2 c =
-    let r = c .before .before in
-    let n = r .before .before in
-    let k = n .before .before .before in
-    let t = k .before .before .before .before in
-    file-listed (t .put-text .ensures) (now (t .before .before .before .before .before .args .header)) (k .answer2 .given .1) (n .shown-name .ensures .0) (r .put-fields .ensures)
+    let put-fields = c .before .before in
+    let shown-name = put-fields .before .before in
+    let arm = shown-name .before .before .before in
+    let put-text = arm .before .before .before .before in
+    file-listed (put-text .put-text .ensures) (now (put-text .before .before .before .before .before .args .header)) (arm .answer2 .given .1) (shown-name .shown-name .ensures .0) (put-fields .put-fields .ensures)
 
 pub put-listing-spec : {M : Type 1} → statement M
 put-listing-spec =

@@ -10,24 +10,24 @@ put-digits-requires c κs = search needs
 
 slice-write-out : tie.Need-slice-write-out
 slice-write-out c =
-    let d = c .before .before in
-    let s = d .before .before .before in
-    let r = append-room (d .put-digits .ensures) 20 1 (width-digits 20 (s .args .n)) (omega arith) in
+    let put-digits = c .before .before in
+    let start = put-digits .before .before .before in
+    let r = append-room (put-digits .put-digits .ensures) 20 1 (width-digits 20 (start .args .n)) (omega arith) in
     omega arith
 
 add-result : tie.Need-add-result
 add-result c =
-    let d = c .before .before in
-    let s = d .before .before .before in
-    let r = append-room (d .put-digits .ensures) 20 1 (width-digits 20 (s .args .n)) (omega arith) in
-    let l = append-length (d .put-digits .ensures) in
+    let put-digits = c .before .before in
+    let start = put-digits .before .before .before in
+    let r = append-room (put-digits .put-digits .ensures) 20 1 (width-digits 20 (start .args .n)) (omega arith) in
+    let l = append-length (put-digits .put-digits .ensures) in
     omega arith
 
 same-length : tie.Need-same-length
 same-length c = search needs
 
 returns : tie.Need-returns
-returns c = let d = c .before .before in append-one (d .put-digits .ensures) (d .before .before .before .args .after)
+returns c = let put-digits = c .before .before in append-one (put-digits .put-digits .ensures) (put-digits .before .before .before .args .after)
 
 pub put-number-spec : {M : Type 1} → statement M
 put-number-spec =

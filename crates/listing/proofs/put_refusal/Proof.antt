@@ -16,8 +16,8 @@ lent c = c .before .before .before .before
 abbrev word-of : tie.After-put-number → tie.After-put-text
 word-of c = c .before .before .before .before .before
 
-abbrev number-of : tie.After-put-number2 → tie.After-put-number
-number-of c = c .before .before .before .before .before
+abbrev number-at : tie.After-put-number2 → tie.After-put-number
+number-at c = c .before .before .before .before .before
 
 abbrev block-of : tie.After-put-number3 → tie.After-put-number2
 block-of c = c .before .before .before .before
@@ -30,7 +30,7 @@ after-number : (c : tie.After-put-number) → c .put-number .result + 42 ≤ len
 after-number c = append-room (c .put-number .ensures) 21 42 (width-number _ 0x20) (omega (arith, after-word (word-of c)))
 
 after-block : (c : tie.After-put-number2) → c .put-number2 .result + 21 ≤ length (c .put-number2 .last .1 .1 .0)
-after-block c = append-room (c .put-number2 .ensures) 21 21 (width-number _ 0x20) (omega (arith, after-number (number-of c)))
+after-block c = append-room (c .put-number2 .ensures) 21 21 (width-number _ 0x20) (omega (arith, after-number (number-at c)))
 
 slice-aggregate-put-text : tie.Need-slice-aggregate-put-text
 slice-aggregate-put-text c = search needs
@@ -38,8 +38,8 @@ slice-aggregate-put-text c = search needs
 put-text-requires : tie.Need-put-text-requires
 put-text-requires c κs = search needs
 
-number-requires : tie.Need-number-requires
-number-requires c κs = search needs
+number-of-requires : tie.Need-number-of-requires
+number-of-requires c κs = search needs
 
 cast-put-number : tie.Need-cast-put-number
 cast-put-number c = search needs
@@ -62,13 +62,13 @@ same-length c = search needs
 returns : tie.Need-returns
 unfolding ascii
 returns c =
-    let p = c .before .before in
-    let b = block-of p in
-    let n = number-of b in
+    let put-number3 = c .before .before in
+    let b = block-of put-number3 in
+    let n = number-at b in
     let w = word-of n in
     let r = lent w .args .r in
-    refusal-put (numberOf (r .reason)) (r .block) (r .place) (w .put-text .ensures) (n .before .before .number .ensures) (n .put-number .ensures) (b .put-number2 .ensures)
-    (p .put-number3 .ensures)
+    refusal-put (numberOf (r .reason)) (r .block) (r .place) (w .put-text .ensures) (n .before .before .number-of .ensures) (n .put-number .ensures) (b .put-number2 .ensures)
+    (put-number3 .put-number3 .ensures)
 
 pub put-refusal-spec : {M : Type 1} → statement M
 put-refusal-spec =
@@ -76,7 +76,7 @@ put-refusal-spec =
     (tie.spec
     slice-aggregate-put-text
     put-text-requires
-    number-requires
+    number-of-requires
     cast-put-number
     put-number-requires
     cast-put-number-2

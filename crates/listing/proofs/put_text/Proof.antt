@@ -1,14 +1,22 @@
--- `listing::put_text` meets its contract: there is room for the text.
-use native.Mathlib.Omega.{arith}
-use mathlib.Core.Path.{refl, sym, _∙_}
+-- `listing::put_text` meets its contract: the text is copied into the part of the output from that place on.
+use mathlib.Core.Path.{refl}
 use borrow.Author.Needs.{needs}
 use denote.Ref.{now}
-use Rattle.lists.proofs.BufferLaws.{put-room}
+use Rattle.listing.proofs.LineLaws.{text-put}
 use Rattle.listing.proofs.put_text.Statement.{statement}
 use Rattle.listing.proofs.put_text.Tie as tie
 
-put-bytes-requires : tie.Need-put-bytes-requires
-put-bytes-requires c κs = search needs
+sub-copy : tie.Need-sub-copy
+sub-copy c = search needs
+
+part-copy-start : tie.Need-part-copy-start
+part-copy-start c = search needs
+
+part-copy-end : tie.Need-part-copy-end
+part-copy-end c = search needs
+
+copy-requires : tie.Need-copy-requires
+copy-requires c κs = search needs
 
 add-result : tie.Need-add-result
 add-result c = search needs
@@ -18,9 +26,12 @@ same-length c = search needs
 
 returns : tie.Need-returns
 returns c =
-    let p = c .before .before in
-    let a = p .before .before .before .before .args in
-    record { put = p .put-bytes .ensures ∙ sym (put-room (now (a .out)) (a .at) (now (a .text)) (omega arith)); stop = refl }
+    let copy = c .before .before in
+    let start = copy .before .before .before .before in
+    let args = start .args in
+    record { put = text-put (now (args .out)) (args .at) (now (args .text)) (start .pre) (copy .copy .ensures .1); stop = refl }
 
 pub put-text-spec : {M : Type 1} → statement M
-put-text-spec = tie.close (tie.spec put-bytes-requires add-result same-length returns)
+put-text-spec =
+    tie.close
+    (tie.spec sub-copy part-copy-start part-copy-end copy-requires add-result same-length returns)

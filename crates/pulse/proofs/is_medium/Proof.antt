@@ -6,8 +6,8 @@ use Rattle.pulse.proofs.is_medium.Tie as tie
 
 returns : tie.Need-returns
 returns c =
-    let a = c .before .before .before .args in
-    rw (leb-not (a .t .short) (a .pulse .0), leb-not (a .t .medium) (a .pulse .0)) (class-tests (a .t) (a .pulse .0) .medium)
+    let args = c .before .before .before .args in
+    rw (leb-not (args .t .short) (args .pulse .0), leb-not (args .t .medium) (args .pulse .0)) (class-tests (args .t) (args .pulse .0) .medium)
 
 pub is-medium-spec : {M : Type 1} → statement M
 is-medium-spec = tie.close (tie.spec returns)

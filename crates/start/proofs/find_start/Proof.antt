@@ -7,8 +7,8 @@ use denote.Ref.{now}
 use lib.ListN.{length, length-map}
 use Rattle.lists.proofs.PlaceLaws.{some-first}
 use Rattle.pulse.specs.Pulse.{classOf, classes}
-use Rattle.start.specs.Start.{foundAt}
-use Rattle.start.proofs.Searching.{some-last, Searching, ended, broken, run-lasts, other-byte, found}
+use Rattle.start.specs.Start.{startAt, foundAt, findStart}
+use Rattle.start.proofs.Searching.{some-last, Searching, findStart-fewer, searching-notShort, findStart-runLasts, searching-otherByte, findStart-found}
 use Rattle.start.proofs.find_start.Statement.{statement}
 use Rattle.start.proofs.find_start.Tie as tie
 
@@ -38,20 +38,20 @@ enum-known-last c = search needs
 
 add-at : tie.Need-add-at Inv-look μ-look Inv-search μ-search
 add-at c =
-    let l = c .before .before .before in
-    let r = some-last _ _ 16 _ (sym (l .last-not-short .ensures) ∙ ap foundAt (c .before .last .given .1)) in
+    let last-not-short = c .before .before .before in
+    let r = some-last _ _ 16 _ (sym (last-not-short .last-not-short .ensures) ∙ ap foundAt (c .before .last .given .1)) in
     omega arith
 
 search-less : tie.Need-search-less Inv-look μ-look Inv-search μ-search
 search-less c =
-    let l = c .before .before .before in
-    let r = some-last _ _ 16 _ (sym (l .last-not-short .ensures) ∙ ap foundAt (c .before .last .given .1)) in
+    let last-not-short = c .before .before .before in
+    let r = some-last _ _ 16 _ (sym (last-not-short .last-not-short .ensures) ∙ ap foundAt (c .before .last .given .1)) in
     omega arith
 
 search-again : tie.Need-search-again Inv-look μ-look Inv-search μ-search
 search-again c =
-    let l = c .before .before .before in
-    broken (l .before .before .before .search .inv) (sym (l .last-not-short .ensures) ∙ ap foundAt (c .before .last .given .1))
+    let last-not-short = c .before .before .before in
+    searching-notShort (last-not-short .before .before .before .search .inv) (sym (last-not-short .last-not-short .ensures) ∙ ap foundAt (c .before .last .given .1))
 
 enum-told : tie.Need-enum-told Inv-look μ-look Inv-search μ-search
 enum-told c = search needs
@@ -76,47 +76,50 @@ matches-requires c κs = search needs
 
 add-at-2 : tie.Need-add-at-2 Inv-look μ-look Inv-search μ-search
 add-at-2 c =
-    let n = c .before .before .before .before in
-    let r = some-first _ _ _ _ (sym (n .before .before .first-not-short .ensures) ∙ ap foundAt (n .end .given .1)) in
+    let arm = c .before .before .before .before in
+    let r = some-first _ _ _ _ (sym (arm .before .before .first-not-short .ensures) ∙ ap foundAt (arm .end .given .1)) in
     omega arith
 
 search-less-2 : tie.Need-search-less-2 Inv-look μ-look Inv-search μ-search
 search-less-2 c =
-    let n = c .before .before .before .before in
-    let r = some-first _ _ _ _ (sym (n .before .before .first-not-short .ensures) ∙ ap foundAt (n .end .given .1)) in
+    let arm = c .before .before .before .before in
+    let r = some-first _ _ _ _ (sym (arm .before .before .first-not-short .ensures) ∙ ap foundAt (arm .end .given .1)) in
     omega arith
 
 search-again-2 : tie.Need-search-again-2 Inv-look μ-look Inv-search μ-search
 search-again-2 c =
-    let n = c .before .before .before .before in
-    let f = n .before .before in
-    let h = f .before .before .before .before .before .before in
-    other-byte (h .search .inv) _ (sym (f .first-not-short .ensures) ∙ ap foundAt (n .end .given .1)) (sym (c .before .matches .ensures) ∙ c .if2 .left)
+    let arm = c .before .before .before .before in
+    let first-not-short = arm .before .before in
+    let search = first-not-short .before .before .before .before .before .before in
+    searching-otherByte (search .search .inv) _ (sym (first-not-short .first-not-short .ensures) ∙ ap foundAt (arm .end .given .1)) (sym (c .before .matches .ensures) ∙ c .if2 .left)
 
 returns : tie.Need-returns Inv-look μ-look Inv-search μ-search
+unfolding findStart
 returns c =
-    let h = c .before .before in
-    let a = h .before .before .args in
-    ended (h .search .inv) (omega (arith, length-map (now (a .strip)) (classOf (a .t))))
+    let search = c .before .before in
+    let args = search .before .before .args in
+    ap startAt (findStart-fewer (search .search .inv) (omega (arith, length-map (now (args .strip)) (classOf (args .t)))))
 
 returns-2 : tie.Need-returns-2 Inv-look μ-look Inv-search μ-search
+unfolding findStart
 returns-2 c =
-    let f = c .before .before in
-    let h = f .before .before .before .before .before .before in
-    let a = h .before .before .args in
-    run-lasts (h .search .inv) _ (omega (arith, length-map (now (a .strip)) (classOf (a .t)))) (sym (f .first-not-short .ensures) ∙ ap foundAt (c .enum-told2 .given .1))
+    let first-not-short = c .before .before in
+    let search = first-not-short .before .before .before .before .before .before in
+    let args = search .before .before .args in
+    ap startAt (findStart-runLasts (search .search .inv) _ (omega (arith, length-map (now (args .strip)) (classOf (args .t)))) (sym (first-not-short .first-not-short .ensures) ∙ ap foundAt (c .enum-told2 .given .1)))
 
 returns-3 : tie.Need-returns-3 Inv-look μ-look Inv-search μ-search
+unfolding findStart
 returns-3 c =
-    let n = c .before .before .before .before in
-    let f = n .before .before in
-    let m = f .before in
-    let l = m .before .before in
-    found
-    (l .before .before .before .search .inv) _
-    (sym (f .first-not-short .ensures) ∙ ap foundAt (n .end .given .1))
-    (sym (l .last-not-short .ensures) ∙ ap foundAt (m .enum-told .given .1))
-    (sym (c .before .matches .ensures) ∙ c .if2 .taken)
+    let arm = c .before .before .before .before in
+    let first-not-short = arm .before .before in
+    let arm-2 = first-not-short .before in
+    let last-not-short = arm-2 .before .before in
+    ap startAt (findStart-found
+    (last-not-short .before .before .before .search .inv) _
+    (sym (first-not-short .first-not-short .ensures) ∙ ap foundAt (arm .end .given .1))
+    (sym (last-not-short .last-not-short .ensures) ∙ ap foundAt (arm-2 .enum-told .given .1))
+    (sym (c .before .matches .ensures) ∙ c .if2 .taken))
 
 pub find-start-spec : {M : Type 1} → statement M
 find-start-spec =

@@ -33,10 +33,10 @@ is-short-requires c κs = search needs
 
 returns : tie.Need-returns Inv-loop μ-loop
 returns c =
-    let h = c .before .before .before .before in
-    let a = h .before .before .args in
-    let e = not-short-at (a .t) (now (a .strip)) (h .loop .i) (omega arith) ∙ ap not (sym (c .before .is-short .ensures)) ∙ c .if1 .taken in
-    sym (first-here (notShort (classes (a .t) (now (a .strip)))) (length (now (a .strip))) (h .loop .i) (omega arith) e) ∙ h .loop .inv
+    let loop = c .before .before .before .before in
+    let args = loop .before .before .args in
+    let e = not-short-at (args .t) (now (args .strip)) (loop .loop .i) (omega arith) ∙ ap not (sym (c .before .is-short .ensures)) ∙ c .if1 .taken in
+    sym (first-here (notShort (classes (args .t) (now (args .strip)))) (length (now (args .strip))) (loop .loop .i) (omega arith) e) ∙ loop .loop .inv
 
 add-i : tie.Need-add-i Inv-loop μ-loop
 add-i c = search needs
@@ -46,16 +46,16 @@ loop-less c = search needs
 
 loop-again : tie.Need-loop-again Inv-loop μ-loop
 loop-again c =
-    let h = c .before .before .before .before in
-    let a = h .before .before .args in
-    let e = not-short-at (a .t) (now (a .strip)) (h .loop .i) (omega arith) ∙ ap not (sym (c .before .is-short .ensures)) ∙ c .if1 .left in
-    first-passed (notShort (classes (a .t) (now (a .strip)))) (length (now (a .strip))) (h .loop .i) (omega arith) e ∙ h .loop .inv
+    let loop = c .before .before .before .before in
+    let args = loop .before .before .args in
+    let e = not-short-at (args .t) (now (args .strip)) (loop .loop .i) (omega arith) ∙ ap not (sym (c .before .is-short .ensures)) ∙ c .if1 .left in
+    first-passed (notShort (classes (args .t) (now (args .strip)))) (length (now (args .strip))) (loop .loop .i) (omega arith) e ∙ loop .loop .inv
 
 returns-2 : tie.Need-returns-2 Inv-loop μ-loop
 returns-2 c =
-    let h = c .before in
-    let a = h .before .before .args in
-    sym (first-over (notShort (classes (a .t) (now (a .strip)))) (length (now (a .strip))) (h .loop .i) (omega arith)) ∙ h .loop .inv
+    let loop = c .before in
+    let args = loop .before .before .args in
+    sym (first-over (notShort (classes (args .t) (now (args .strip)))) (length (now (args .strip))) (loop .loop .i) (omega arith)) ∙ loop .loop .inv
 
 pub first-not-short-spec : {M : Type 1} → statement M
 first-not-short-spec =

@@ -40,26 +40,26 @@ add-t12 c = search needs
 
 returns : tie.Need-returns Inv-loop μ-loop
 returns c =
-    let h = c .before .before .before .before in
-    let a = h .before .before .args in
-    let e = not-short-at (a .t) (now (a .strip)) (a .at + (h .loop .count - 1)) (omega arith) ∙ ap not (sym (c .before .is-short .ensures)) ∙ c .if1 .taken in
-    sym (last-here (notShort (classes (a .t) (now (a .strip)))) (a .at) (h .loop .count) (omega arith) e) ∙ h .loop .inv .1
+    let loop = c .before .before .before .before in
+    let args = loop .before .before .args in
+    let e = not-short-at (args .t) (now (args .strip)) (args .at + (loop .loop .count - 1)) (omega arith) ∙ ap not (sym (c .before .is-short .ensures)) ∙ c .if1 .taken in
+    sym (last-here (notShort (classes (args .t) (now (args .strip)))) (args .at) (loop .loop .count) (omega arith) e) ∙ loop .loop .inv .1
 
 loop-less : tie.Need-loop-less Inv-loop μ-loop
 loop-less c = search needs
 
 loop-again : tie.Need-loop-again Inv-loop μ-loop
 loop-again c =
-    let h = c .before .before .before .before in
-    let a = h .before .before .args in
-    let e = not-short-at (a .t) (now (a .strip)) (a .at + (h .loop .count - 1)) (omega arith) ∙ ap not (sym (c .before .is-short .ensures)) ∙ c .if1 .left in
-    (omega arith, last-passed (notShort (classes (a .t) (now (a .strip)))) (a .at) (h .loop .count) (omega arith) e ∙ h .loop .inv .1)
+    let loop = c .before .before .before .before in
+    let args = loop .before .before .args in
+    let e = not-short-at (args .t) (now (args .strip)) (args .at + (loop .loop .count - 1)) (omega arith) ∙ ap not (sym (c .before .is-short .ensures)) ∙ c .if1 .left in
+    (omega arith, last-passed (notShort (classes (args .t) (now (args .strip)))) (args .at) (loop .loop .count) (omega arith) e ∙ loop .loop .inv .1)
 
 returns-2 : tie.Need-returns-2 Inv-loop μ-loop
 returns-2 c =
-    let h = c .before in
-    let a = h .before .before .args in
-    sym (last-over (notShort (classes (a .t) (now (a .strip)))) (a .at) (h .loop .count) (omega arith)) ∙ h .loop .inv .1
+    let loop = c .before in
+    let args = loop .before .before .args in
+    sym (last-over (notShort (classes (args .t) (now (args .strip)))) (args .at) (loop .loop .count) (omega arith)) ∙ loop .loop .inv .1
 
 pub last-not-short-spec : {M : Type 1} → statement M
 last-not-short-spec =

@@ -30,8 +30,8 @@ array-share-prefix-path c = search needs
 
 slice-aggregate-write-all-2 : tie.Need-slice-aggregate-write-all-2
 slice-aggregate-write-all-2 c =
-    let a = c .before .before .before .before .before in
-    sym (length-take-le (a .arg .result - 4) (a .arg .last .1 .0) (omega (arith, a .arg .ensures .0)))
+    let arg = c .before .before .before .before .before in
+    sym (length-take-le (arg .arg .result - 4) (arg .arg .last .1 .0) (omega (arith, arg .arg .ensures .0)))
 
 write-all-requires-2 : tie.Need-write-all-requires-2
 write-all-requires-2 c κs = search needs

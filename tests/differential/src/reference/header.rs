@@ -26,7 +26,7 @@ pub struct Header {
 }
 
 /// A part of the lent header.
-#[derive(Clone, Copy, Debug, Default, PartialEq, Eq)]
+#[derive(Clone, Copy, Debug, PartialEq, Eq)]
 pub struct Span {
     pub offset: usize,
     pub length: usize,
@@ -50,21 +50,19 @@ pub fn unpack_header(bytes: &[u8]) -> Result<Header, Refusal> {
     Ok(header)
 }
 
-/// The shown name's place in a lone header, without the spaces at its end. A
-/// header that cannot be unpacked has none.
-pub fn shown_name(bytes: &[u8]) -> Span {
-    if unpack_header(bytes).is_err() {
-        return Span::default();
-    }
+/// The shown name's place in a lone header, without the spaces at its end. It
+/// is refused where unpacking is.
+pub fn shown_name(bytes: &[u8]) -> Result<Span, Refusal> {
+    unpack_header(bytes)?;
     let shown = &bytes[FIELDS..FIELDS + SHOWN];
     let length = shown
         .iter()
         .rposition(|&byte| byte != SPACE)
         .map_or(0, |last| last + 1);
-    Span {
+    Ok(Span {
         offset: FIELDS,
         length,
-    }
+    })
 }
 
 pub(super) fn check_name(name: &[u8]) -> Result<(), Refusal> {
@@ -114,7 +112,7 @@ mod tests {
 
     fn shown(name: &[u8]) -> Vec<u8> {
         let bytes = header_bytes(GAME, name);
-        let Span { offset, length } = shown_name(&bytes);
+        let Span { offset, length } = shown_name(&bytes).expect("a sound header");
         assert_eq!(offset, 5);
         bytes[offset..offset + length].to_vec()
     }
@@ -153,17 +151,22 @@ mod tests {
         for kind in 0..=255 {
             let header = Header { kind, ..GAME };
             let bytes = header_bytes(header, b"A");
-            let (expected, span) = match kind {
-                1..=5 => (Ok(header), (5, 1)),
-                _ => (Err(Refusal::new(8)), (0, 0)),
+            let (fields, span) = match kind {
+                1..=5 => (
+                    Ok(header),
+                    Ok(Span {
+                        offset: 5,
+                        length: 1,
+                    }),
+                ),
+                _ => (Err(Refusal::new(8)), Err(Refusal::new(8))),
             };
-            assert_eq!(unpack_header(&bytes), expected);
-            let Span { offset, length } = shown_name(&bytes);
-            assert_eq!((offset, length), span);
+            assert_eq!(unpack_header(&bytes), fields);
+            assert_eq!(shown_name(&bytes), span);
         }
         for length in [0, 191, 193] {
             assert_eq!(unpack_header(&[1; 200][..length]), Err(Refusal::new(1)));
-            assert_eq!(shown_name(&[1; 200][..length]), Span::default());
+            assert_eq!(shown_name(&[1; 200][..length]), Err(Refusal::new(1)));
         }
     }
 

@@ -93,7 +93,7 @@ mod tests {
         let mut data = vec![0; 8192];
         let file = read_file(&pulses[..read.count], 0, &mut header, &mut data)?;
         let Header { kind, start, end } = file.header;
-        let shown = shown_name(&header);
+        let shown = shown_name(&header)?;
         let name: String = header[shown.offset..][..shown.length]
             .iter()
             .map(|&b| match b {

@@ -5,8 +5,8 @@ use mathlib.Core.Path.{_∙_, _≡_}
 use borrow.Author.Needs.{needs}
 use denote.Ref.{now}
 use lib.ListN.{length, drop}
-use Rattle.block.proofs.Writing.{sum-next, sum-done}
 use Rattle.block.specs.Block.{xorFrom, checksum}
+use Rattle.block.proofs.Writing.{sum-next, sum-done}
 use Rattle.block.proofs.write.checksum_of.Statement.{statement}
 use Rattle.block.proofs.write.checksum_of.Tie as tie
 
@@ -30,11 +30,11 @@ loop-less c = search needs
 
 loop-again : tie.Need-loop-again Inv-loop μ-loop
 loop-again c =
-    let h = c .before .before in
-    (omega arith, sum-next (h .loop .sum) (h .loop .i) (now (h .before .args .payload)) (c .before .loop-test .taken) ∙ h .loop .inv .1)
+    let loop = c .before .before in
+    (omega arith, sum-next (loop .loop .sum) (loop .loop .i) (now (loop .before .args .payload)) (c .before .loop-test .taken) ∙ loop .loop .inv .1)
 
 returns : tie.Need-returns Inv-loop μ-loop
-returns c = let h = c .before in sum-done (h .loop .sum) (h .loop .i) (now (h .before .args .payload)) (c .loop-test .left) ∙ h .loop .inv .1
+returns c = let loop = c .before in sum-done (loop .loop .sum) (loop .loop .i) (now (loop .before .args .payload)) (c .loop-test .left) ∙ loop .loop .inv .1
 
 pub checksum-of-spec : {M : Type 1} → statement M
 checksum-of-spec =

@@ -51,8 +51,8 @@ returns c =
     let oneEnd = both .before .before .before .before in
     let one = oneEnd .before .before .before .before in
     let led = one .before .before .before .before in
-    let a = led .before .before .before .before .before .args in
-    block-put (now (a .out)) (a .leader) (now (a .payload)) (led .put-shorts .ensures) (one .put-copy .ensures) (oneEnd .put-trailer .ensures)
+    let args = led .before .before .before .before .before .args in
+    block-put (now (args .out)) (args .leader) (now (args .payload)) (led .put-shorts .ensures) (one .put-copy .ensures) (oneEnd .put-trailer .ensures)
     (both .put-copy2 .ensures) (bothEnd .put-trailer2 .ensures)
 
 pub put-block-spec : {M : Type 1} → statement M

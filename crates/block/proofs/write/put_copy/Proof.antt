@@ -27,12 +27,12 @@ add-last : tie.Need-add-last
 add-last c = search needs
 
 slice-aggregate-put-bytes : tie.Need-slice-aggregate-put-bytes
-slice-aggregate-put-bytes c = sym (length-row (c .before .before .before .before .before .args .copy) (c .before .before .before .before .before .pre .0 .0))
+slice-aggregate-put-bytes c = let start = c .before .before .before .before in sym (length-row (start .args .copy) (start .pre .0 .0))
 
 put-bytes-requires : tie.Need-put-bytes-requires
 put-bytes-requires c κs =
-    let s = c .before .before .before .before .before in
-    let l = length-row (s .args .copy) (s .pre .0 .0) in omega arith
+    let start = c .before .before .before .before .before in
+    let l = length-row (start .args .copy) (start .pre .0 .0) in omega arith
 
 put-bytes-requires-2 : tie.Need-put-bytes-requires-2
 put-bytes-requires-2 c κs = search needs
@@ -51,10 +51,10 @@ returns c =
     let three = c .before .before in
     let two = three .before .before .before .before .before in
     let one = two .before .before .before .before in
-    let s = one .before .before .before .before .before .before in
-    let a = s .args in
-    copy-put (now (a .out)) (a .at) (a .copy) (now (a .payload)) (s .pre .0 .1) (row-countdown (a .copy) (s .pre .0 .0)) (s .pre .1)
-    (one .put-bytes .ensures .1) (two .put-bytes2 .ensures .1) (three .put-bytes3 .ensures .1)
+    let start = one .before .before .before .before .before .before in
+    let args = start .args in
+    copy-put (now (args .out)) (args .at) (args .copy) (now (args .payload)) (row-countdown (args .copy) (start .pre .0 .0)) (start .pre .1)
+    (one .put-bytes .ensures) (two .put-bytes2 .ensures) (three .put-bytes3 .ensures)
 
 pub put-copy-spec : {M : Type 1} → statement M
 put-copy-spec =

@@ -17,7 +17,7 @@ written-as-requires : tie.Need-written-as-requires Inv-loop μ-loop
 written-as-requires c κs = search needs
 
 loop-holds : tie.Need-loop-holds Inv-loop μ-loop
-loop-holds c = let a = c .before .before .args in (omega arith, shorts-begun (now (a .out)) (a .at) (a .count))
+loop-holds c = let args = c .before .before .args in (omega arith, shorts-begun (now (args .out)) (args .at) (args .count))
 
 add-out : tie.Need-add-out Inv-loop μ-loop
 add-out c = search needs
@@ -36,18 +36,18 @@ loop-less c = search needs
 
 loop-again : tie.Need-loop-again Inv-loop μ-loop
 loop-again c =
-    let h = c .before in
-    let a = h .before .before .before .args in
-    (omega arith, shorts-next (now (a .out)) (a .at) (a .count) (h .loop .inv .1) (c .loop-test .taken) (h .before .written-as .ensures))
+    let loop = c .before in
+    let args = loop .before .before .before .args in
+    (omega arith, shorts-next (now (args .out)) (args .at) (args .count) (loop .loop .inv .1) (c .loop-test .taken) (loop .before .written-as .ensures))
 
 same-length : tie.Need-same-length Inv-loop μ-loop
 same-length c = c .before .loop .inv .1 .long
 
 returns : tie.Need-returns Inv-loop μ-loop
 returns c =
-    let h = c .before in
-    let a = h .before .before .before .args in
-    shorts-done (now (a .out)) (a .at) (a .count) (h .loop .inv .1) (c .loop-test .left)
+    let loop = c .before in
+    let args = loop .before .before .before .args in
+    shorts-done (now (args .out)) (args .at) (args .count) (loop .loop .inv .1) (c .loop-test .left)
 
 pub put-shorts-spec : {M : Type 1} → statement M
 put-shorts-spec =

@@ -26,15 +26,15 @@ put-shorts-requires c κs = simp length-set (omega arith)
 
 same-length : tie.Need-same-length
 same-length c =
-    let s = c .before .before in
-    ap length (s .put-shorts .ensures) ∙ simp (length-sets, length-set)
+    let put-shorts = c .before .before in
+    ap length (put-shorts .put-shorts .ensures) ∙ simp (length-sets, length-set)
 
 returns : tie.Need-returns
 returns c =
-    let s = c .before .before in
-    let w = s .before .before in
-    let a = w .before .before .args in
-    s .put-shorts .ensures ∙ trailer-put (now (a .out)) (a .at) (w .written-as .result .0) (w .written-as .ensures)
+    let put-shorts = c .before .before in
+    let written-as = put-shorts .before .before in
+    let args = written-as .before .before .args in
+    put-shorts .put-shorts .ensures ∙ trailer-put (now (args .out)) (args .at) (written-as .written-as .result .0) (written-as .written-as .ensures)
 
 pub put-trailer-spec : {M : Type 1} → statement M
 put-trailer-spec =

@@ -5,7 +5,7 @@ use mathlib.Core.Path.{sym, _∙_}
 use borrow.Author.Needs.{needs}
 use borrow.Author.Tests.{not-true, not-false}
 use lib.Count.{ones-le}
-use Rattle.byte.specs.Decoder.{closed}
+use Rattle.byte.specs.private.Decoder.{closed}
 use Rattle.byte.proofs.Decoder.close.Statement.{statement}
 use Rattle.byte.proofs.Decoder.close.Tie as tie
 
@@ -25,14 +25,14 @@ is-odd-requires c κs = search needs
 returns-2 : tie.Need-returns-2
 unfolding closed
 returns-2 c =
-    let d = c .before .before .before .before .before .before .args .self in
-    rw (not-false (d .sound) (c .before .before .if1 .left), sym (c .before .is-odd .ensures) ∙ c .if2 .taken)
+    let self = c .before .before .before .before .before .before .args .self in
+    rw (not-false (self .sound) (c .before .before .if1 .left), sym (c .before .is-odd .ensures) ∙ c .if2 .taken)
 
 returns-3 : tie.Need-returns-3
 unfolding closed
 returns-3 c =
-    let d = c .before .before .before .before .before .before .args .self in
-    rw (not-false (d .sound) (c .before .before .if1 .left), sym (c .before .is-odd .ensures) ∙ c .if2 .left)
+    let self = c .before .before .before .before .before .before .args .self in
+    rw (not-false (self .sound) (c .before .before .if1 .left), sym (c .before .is-odd .ensures) ∙ c .if2 .left)
 
 pub close-spec : {M : Type 1} → statement M
 close-spec = tie.close (tie.spec cast-value returns add-is-odd is-odd-requires returns-2 returns-3)

@@ -21,8 +21,8 @@ shl-t8 c = search needs
 
 returns : tie.Need-returns
 returns c =
-    let a = c .before .before .before .before .args in
-    rw (c .before .before .before .is-sound .ensures, c .before .bit-of .ensures, shl-exact {a = bitOf (a .p)} 1 (a .i) 32 (bit-lt (a .p)) (omega arith))
+    let args = c .before .before .before .before .args in
+    rw (c .before .before .before .is-sound .ensures, c .before .bit-of .ensures, shl-exact {a = bitOf (args .p)} 1 (args .i) 32 (bit-lt (args .p)) (omega arith))
 
 pub feed-spec : {M : Type 1} → statement M
 feed-spec = tie.close (tie.spec is-sound-requires bit-of-requires cast-t7 shl-t8 returns)

@@ -1,0 +1,73 @@
+-- `block::values::fill_sound` meets its contract. The invariant: the values left, put after those that are there, give the whole.
+use Prim.Native.Nat.{_+_, _-_, _≤_}
+use native.Mathlib.Omega.{arith}
+use mathlib.Core.Path.{refl, sym, ap, _∙_}
+use mathlib.Core.List.{_∷_}
+use borrow.Author.Needs.{needs}
+use denote.Ref.{now}
+use Rattle.lists.specs.Places.{tabulate}
+use Rattle.lists.proofs.LoopLaws.{put-begun, put-one, put-done, table-begun, table-next, table-over, Putting, tableLeft}
+use Rattle.block.specs.private.Checks.{soundAt}
+use Rattle.block.proofs.values.fill_sound.Statement.{statement}
+use Rattle.block.proofs.values.fill_sound.Tie as tie
+
+abbrev Inv-loop : tie.InvT-loop
+Inv-loop t strip at n out₀ i₀ out i = (i ≤ n) × Putting out₀ 0 (tabulate (soundAt t strip at) n 0) out i (tableLeft (soundAt t strip at) n i)
+
+abbrev μ-loop : tie.MeasureT-loop
+μ-loop t strip at n out₀ i₀ out i = n - i
+
+loop-holds : tie.Need-loop-holds Inv-loop μ-loop
+loop-holds c = (omega arith, put-begun _ 0 0 _ _ refl (table-begun _ _))
+
+mul-bits-at : tie.Need-mul-bits-at Inv-loop μ-loop
+mul-bits-at c = omega arith
+
+add-bits-at : tie.Need-add-bits-at Inv-loop μ-loop
+add-bits-at c = omega arith
+
+bits-at-requires : tie.Need-bits-at-requires Inv-loop μ-loop
+bits-at-requires c κs = omega arith
+
+slice-write-out : tie.Need-slice-write-out Inv-loop μ-loop
+slice-write-out c = search needs
+
+add-i : tie.Need-add-i Inv-loop μ-loop
+add-i c = omega arith
+
+loop-less : tie.Need-loop-less Inv-loop μ-loop
+loop-less c = omega arith
+
+loop-again : tie.Need-loop-again Inv-loop μ-loop
+loop-again c =
+    let loop = c .before .before in
+    let args = loop .before .before .before .args in
+    let value = soundAt (args .t) (now (args .strip)) (args .at) in
+    let left = tableLeft value (args .n) (loop .loop .i + 1) in
+    (omega arith, put-one (loop .loop .inv .1) _ left (table-next value (args .n) (loop .loop .i) (c .before .loop-test .taken) ∙ ap (λ v. v ∷ left) (sym (c .bits-at .ensures))) refl)
+
+same-length : tie.Need-same-length Inv-loop μ-loop
+same-length c = search needs
+
+returns : tie.Need-returns Inv-loop μ-loop
+returns c =
+    let loop = c .before in
+    let args = loop .before .before .before .args in
+    put-done (loop .loop .inv .1) (table-over (soundAt (args .t) (now (args .strip)) (args .at)) (args .n) (loop .loop .i) (c .loop-test .left))
+
+pub fill-sound-spec : {M : Type 1} → statement M
+fill-sound-spec =
+    tie.close
+    (tie.spec
+    Inv-loop
+    μ-loop
+    loop-holds
+    mul-bits-at
+    add-bits-at
+    bits-at-requires
+    slice-write-out
+    add-i
+    loop-less
+    loop-again
+    same-length
+    returns)

@@ -1,0 +1,30 @@
+// Rows of flags, eight to a byte, in which the reader keeps the places whose value is copy two's.
+ghost use mathlib.Core.Path.{_≡_};
+ghost use Rattle.block.specs.private.Flags.{flagAt, raised};
+
+const BYTE_FLAGS: usize = 8;
+
+// A flag for each place of the largest payload and one for the checksum's.
+pub const ROW_BYTES: usize = super::MOST_BYTES / BYTE_FLAGS + 1;
+
+// Whether a flag of a row is raised; past the row's end none is.
+pub fn flag(row: &[u8], i: usize) -> bool
+    ensures { λ r. ⌜ r ≡ flagAt (now (row .entry)) i ⌝ }
+{
+    let at = i / BYTE_FLAGS;
+    if row.len() <= at {
+        return false;
+    }
+    (row[at] >> (i % BYTE_FLAGS)) % 2 == 1
+}
+
+// Raises a flag of a row; past the row's end there is none to raise.
+pub fn raise_flag(row: &mut [u8], i: usize)
+    ensures { λ _. ⌜ now (row .exit) ≡ raised (now (row .entry)) i ⌝ }
+{
+    let at = i / BYTE_FLAGS;
+    if row.len() <= at {
+        return;
+    }
+    row[at] = row[at] | (1 << (i % BYTE_FLAGS));
+}

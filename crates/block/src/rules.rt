@@ -1,0 +1,162 @@
+// Rules 2 to 5, in the order of document 01.
+use super::BlockAnswer;
+use super::COUNTDOWNS;
+use super::Extent;
+use super::flags;
+use super::values;
+use byte::ByteRead;
+use pulse::Thresholds;
+use refusal::Reason;
+use start::COUNTDOWN_BYTES;
+use start::Copies;
+use start::CopiesAnswer;
+use start::Found;
+ghost use Prim.Native.Nat.{_+_, _*_, _≤_, _<_};
+ghost use mathlib.Core.Path.{_≡_};
+ghost use lib.ListN.{length};
+ghost use Rattle.lists.specs.Places.{firstFrom};
+ghost use Rattle.refusal.specs.Refusal.{refusalAt};
+ghost use Rattle.pulse.specs.Pulse.{classes};
+ghost use Rattle.start.specs.Start.{foundAt};
+ghost use Rattle.start.specs.Copies.{copyPulses, copyTwo, endOf};
+ghost use Rattle.block.specs.Reading.{isCounted, isMiscounted, placeAt, readCopies, readAt, BlockPromise};
+ghost use Rattle.block.specs.private.Checks.{readAs, flagged, NoneRaised, Checked};
+
+// What rules 4 and 5 say of the values.
+enum Check {
+    Sound,
+    LostAt(usize),
+    WrongSum,
+}
+
+pub fn refused(reason: Reason, place: usize) -> BlockAnswer
+    ensures { λ r. ⌜ r ≡ BlockAnswer.Refused (refusalAt reason place) ⌝ }
+{
+    BlockAnswer::Refused(refusal::at(reason, place))
+}
+
+// Rules 2 to 5, for a start that was found.
+pub fn read_at(t: Thresholds, strip: &[u32], start: usize, n: usize, out: &mut [u8]) -> BlockAnswer
+    requires { ⌜ (n ≤ 8192) × (n ≤ length (now out)) ⌝ }
+    ensures { λ r. ⌜ BlockPromise (readAt (classes t (now (strip .entry))) start n) (now (out .entry)) r (now (out .exit)) ⌝ }
+{
+    match start::locate_copies(strip.len(), start, n) {
+        CopiesAnswer::Refused(r) => BlockAnswer::Refused(r),
+        CopiesAnswer::Accepted(copies) => read_copies(t, strip, copies, n, out),
+    }
+}
+
+// Rules 3 to 5. Nothing is put before all of them hold. A row of flags keeps the places whose value is copy two's.
+fn read_copies(
+    t: Thresholds,
+    strip: &[u32],
+    copies: Copies,
+    n: usize,
+    out: &mut [u8],
+) -> BlockAnswer
+    requires { ⌜ (copies .two ≡ copyTwo (copies .one) n) × (copies .end ≡ endOf (copies .one) n) × (copies .end ≤ length (now strip)) ⌝ }
+    requires { ⌜ (n ≤ 8192) × (n ≤ length (now out)) ⌝ }
+    ensures { λ r. ⌜ BlockPromise (readCopies (classes t (now (strip .entry))) (copies .one) n) (now (out .entry)) r (now (out .exit)) ⌝ }
+{
+    let one = copies.one;
+    let two = copies.two;
+    if let Found::At(i) = first_miscounted(t, strip, one, two) {
+        return refused(Reason::WrongCountdown, i);
+    }
+    let mut row = [0u8; flags::ROW_BYTES];
+    match check_values(t, strip, one, two, n, &mut row) {
+        Check::LostAt(i) => refused(Reason::LostByte, i),
+        Check::WrongSum => refused(Reason::WrongChecksum, n),
+        Check::Sound => {
+            values::fill_values(t, strip, one, two, n, &row, out);
+            BlockAnswer::Accepted(Extent {
+                n,
+                start: one,
+                end: copies.end,
+            })
+        }
+    }
+}
+
+// Rule 3 at countdown place i of the copies from `one` and from `two` on.
+fn is_counted(t: Thresholds, strip: &[u32], one: usize, two: usize, i: usize) -> bool
+    requires { ⌜ (i < 9) × (one ≤ two) × (two + 20 * 9 ≤ length (now strip)) ⌝ }
+    ensures { λ r. ⌜ r ≡ isCounted (classes t (now (strip .entry))) one two i ⌝ }
+{
+    let at = byte::BYTE_PULSES * i;
+    if byte::matches(t, strip, one + at, COUNTDOWNS[0][i]) {
+        return true;
+    }
+    byte::matches(t, strip, two + at, COUNTDOWNS[1][i])
+}
+
+fn first_miscounted(t: Thresholds, strip: &[u32], one: usize, two: usize) -> Found
+    requires { ⌜ (one ≤ two) × (two + 20 * 9 ≤ length (now strip)) ⌝ }
+    ensures { λ r. ⌜ foundAt r ≡ firstFrom (isMiscounted (classes t (now (strip .entry))) one two) 9 0 ⌝ }
+{
+    let mut i: usize = 0;
+    while i < COUNTDOWN_BYTES {
+        if !is_counted(t, strip, one, two, i) {
+            return Found::At(i);
+        }
+        i = i + 1;
+    }
+    Found::Nothing
+}
+
+// Rule 4 at place i after the countdown: copy one's byte where it is good, else copy two's, and then the place's flag is raised. There is
+// one call of `byte_at`, for two turns at the most, so that the compiler inlines it.
+fn read_place(
+    t: Thresholds,
+    strip: &[u32],
+    one: usize,
+    two: usize,
+    i: usize,
+    row: &mut [u8],
+) -> ByteRead
+    requires { ⌜ (one < two) × (two + 20 * (9 + i) ≤ length (now strip)) ⌝ }
+    ensures { λ r. ⌜ (r ≡ readAs (placeAt (classes t (now (strip .entry))) one two i)) × (now (row .exit) ≡ flagged (classes t (now (strip .entry))) one two i (now (row .entry))) ⌝ }
+{
+    let at = byte::BYTE_PULSES * (COUNTDOWN_BYTES + i);
+    let mut from = one + at;
+    'copies: loop {
+        let ByteRead::Good(value) = byte::byte_at(t, strip, from) else {
+            if from == two + at {
+                return ByteRead::Bad;
+            }
+            flags::raise_flag(row, i);
+            from = two + at;
+            continue 'copies;
+        };
+        return ByteRead::Good(value);
+    }
+}
+
+// Rules 4 and 5: whether a place is lost, and whether the checksum holds for the repaired values. It does exactly where these and the
+// checksum, all XORed, are 0.
+fn check_values(
+    t: Thresholds,
+    strip: &[u32],
+    one: usize,
+    two: usize,
+    n: usize,
+    row: &mut [u8],
+) -> Check
+    requires { ⌜ (one < two) × (two + copyPulses n ≤ length (now strip)) × (n < 8 * length (now row)) × NoneRaised (now row) ⌝ }
+    ensures { λ r. ⌜ Checked (classes t (now (strip .entry))) one two n r (now (row .exit)) ⌝ }
+{
+    let mut sum: u8 = 0;
+    let mut i: usize = 0;
+    while i <= n {
+        let ByteRead::Good(value) = read_place(t, strip, one, two, i, row) else {
+            return Check::LostAt(i);
+        };
+        sum = sum ^ value;
+        i = i + 1;
+    }
+    if sum == 0 {
+        Check::Sound
+    } else {
+        Check::WrongSum
+    }
+}

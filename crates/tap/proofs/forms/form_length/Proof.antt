@@ -1,0 +1,28 @@
+-- `tap::forms::form_length` meets its contract, case by case.
+use borrow.Author.Needs.{needs}
+use Rattle.lists.specs.Text.{lowFirst}
+use Rattle.tap.proofs.forms.form_length.Statement.{statement}
+use Rattle.tap.proofs.forms.form_length.Tie as tie
+
+enum-told : tie.Need-enum-told
+enum-told c = search needs
+
+enum-told-2 : tie.Need-enum-told-2
+enum-told-2 c = search needs
+
+enum-told-3 : tie.Need-enum-told-3
+enum-told-3 c = search needs
+
+returns : tie.Need-returns
+returns c = search needs
+
+returns-2 : tie.Need-returns-2
+unfolding lowFirst
+returns-2 c = rw (c .enum-told2 .given .1)
+
+returns-3 : tie.Need-returns-3
+returns-3 c = search needs
+
+pub form-length-spec : {M : Type 1} → statement M
+form-length-spec =
+    tie.close (tie.spec enum-told enum-told-2 enum-told-3 returns returns-2 returns-3)

@@ -1,0 +1,69 @@
+-- `tap::writer::first_without` meets its contract. The invariant: the first duration without a form is the first from the place on, and there is one.
+use Prim.Native.Nat.{_-_}
+use native.Mathlib.Omega.{arith}
+use mathlib.Core.Path.{ap, _∙_}
+use borrow.Author.Needs.{needs}
+use denote.Ref.{now}
+use lib.ListN.{length}
+use Rattle.tap.proofs.WriterLaws.{Searched, search-begun, search-within, search-next, search-done}
+use Rattle.tap.proofs.writer.first_without.Statement.{statement}
+use Rattle.tap.proofs.writer.first_without.Tie as tie
+
+abbrev Inv-loop : tie.InvT-loop
+Inv-loop version durations i₀ i = Searched version durations i
+
+abbrev μ-loop : tie.MeasureT-loop
+μ-loop version durations i₀ i = length durations - i
+
+loop-holds : tie.Need-loop-holds Inv-loop μ-loop
+loop-holds c = let args = c .before .args in search-begun (args .version) (now (args .durations)) (c .before .pre)
+
+mul-form-of : tie.Need-mul-form-of Inv-loop μ-loop
+mul-form-of c = let args = c .before .before .args in let within = search-within (args .version) (now (args .durations)) (c .loop .inv) in omega arith
+
+shared-slice-read-form-of : tie.Need-shared-slice-read-form-of Inv-loop μ-loop
+shared-slice-read-form-of c = let loop = c .before in let args = loop .before .before .args in search-within (args .version) (now (args .durations)) (loop .loop .inv)
+
+form-of-requires : tie.Need-form-of-requires Inv-loop μ-loop
+form-of-requires c κs = search needs
+
+form-length-requires : tie.Need-form-length-requires Inv-loop μ-loop
+form-length-requires c κs = search needs
+
+add-i : tie.Need-add-i Inv-loop μ-loop
+add-i c = let loop = c .before .before .before .before in let args = loop .before .before .args in let within = search-within (args .version) (now (args .durations)) (loop .loop .inv) in omega arith
+
+loop-less : tie.Need-loop-less Inv-loop μ-loop
+loop-less c = let loop = c .before .before .before .before in let args = loop .before .before .args in let within = search-within (args .version) (now (args .durations)) (loop .loop .inv) in omega arith
+
+loop-again : tie.Need-loop-again Inv-loop μ-loop
+loop-again c =
+    let form-length = c .before in
+    let form-of = form-length .before in
+    let loop = form-of .before .before in
+    let args = loop .before .before .args in
+    search-next (args .version) (now (args .durations)) (loop .loop .inv) (form-length .form-length .ensures ∙ ap length (form-of .form-of .ensures)) (c .if1 .taken)
+
+returns : tie.Need-returns Inv-loop μ-loop
+returns c =
+    let form-length = c .before in
+    let form-of = form-length .before in
+    let loop = form-of .before .before in
+    let args = loop .before .before .args in
+    search-done (args .version) (now (args .durations)) (loop .loop .inv) (form-length .form-length .ensures ∙ ap length (form-of .form-of .ensures)) (c .if1 .left)
+
+pub first-without-spec : {M : Type 1} → statement M
+first-without-spec =
+    tie.close
+    (tie.spec
+    Inv-loop
+    μ-loop
+    loop-holds
+    mul-form-of
+    shared-slice-read-form-of
+    form-of-requires
+    form-length-requires
+    add-i
+    loop-less
+    loop-again
+    returns)

@@ -1,0 +1,83 @@
+-- `tap::writer::sum_widths` meets its contract. The invariant: with the forms of the durations before, those of the rest give all data bytes, and whether one is missing.
+use Prim.Native.Nat.{_-_}
+use native.Mathlib.Omega.{arith}
+use mathlib.Core.Path.{ap, _∙_}
+use borrow.Author.Needs.{needs}
+use denote.Ref.{now}
+use lib.ListN.{length, getD}
+use Rattle.tap.proofs.FormLaws.{width-formOf}
+use Rattle.tap.proofs.WriterLaws.{MeasuredForms, measure-begun, measure-next, measure-done}
+use Rattle.tap.proofs.writer.sum_widths.Statement.{statement}
+use Rattle.tap.proofs.writer.sum_widths.Tie as tie
+
+abbrev Inv-loop : tie.InvT-loop
+Inv-loop version durations i₀ bytes₀ missing₀ i bytes missing = MeasuredForms version durations i bytes missing
+
+abbrev μ-loop : tie.MeasureT-loop
+μ-loop version durations i₀ bytes₀ missing₀ i bytes missing = length durations - i
+
+loop-holds : tie.Need-loop-holds Inv-loop μ-loop
+loop-holds c = let args = c .before .args in measure-begun (args .version) (now (args .durations))
+
+mul-form-of : tie.Need-mul-form-of Inv-loop μ-loop
+mul-form-of c = search needs
+
+shared-slice-read-form-of : tie.Need-shared-slice-read-form-of Inv-loop μ-loop
+shared-slice-read-form-of c = search needs
+
+form-of-requires : tie.Need-form-of-requires Inv-loop μ-loop
+form-of-requires c κs = search needs
+
+form-length-requires : tie.Need-form-length-requires Inv-loop μ-loop
+form-length-requires c κs = search needs
+
+cast-width : tie.Need-cast-width Inv-loop μ-loop
+cast-width c =
+    let form-of = c .before in
+    let loop = form-of .before .before .before in
+    let args = loop .before .before .args in
+    omega (arith, c .form-length .ensures ∙ ap length (form-of .form-of .ensures), width-formOf (args .version) (getD (now (args .durations)) (loop .loop .i) 0))
+
+add-bytes : tie.Need-add-bytes Inv-loop μ-loop
+add-bytes c =
+    let form-of = c .before in
+    let loop = form-of .before .before .before in
+    let args = loop .before .before .args in
+    omega (arith, c .form-length .ensures ∙ ap length (form-of .form-of .ensures), width-formOf (args .version) (getD (now (args .durations)) (loop .loop .i) 0), loop .loop .inv .few)
+
+add-i : tie.Need-add-i Inv-loop μ-loop
+add-i c = search needs
+
+loop-less : tie.Need-loop-less Inv-loop μ-loop
+loop-less c = search needs
+
+loop-again : tie.Need-loop-again Inv-loop μ-loop
+loop-again c =
+    let form-of = c .before in
+    let loop = form-of .before .before .before in
+    let args = loop .before .before .args in
+    measure-next (args .version) (now (args .durations)) (loop .loop .inv) (form-of .before .before .loop-test .taken) (c .form-length .ensures ∙ ap length (form-of .form-of .ensures))
+
+returns : tie.Need-returns Inv-loop μ-loop
+returns c =
+    let loop = c .before in
+    let args = loop .before .before .args in
+    measure-done (args .version) (now (args .durations)) (loop .loop .inv) (c .loop-test .left)
+
+pub sum-widths-spec : {M : Type 1} → statement M
+sum-widths-spec =
+    tie.close
+    (tie.spec
+    Inv-loop
+    μ-loop
+    loop-holds
+    mul-form-of
+    shared-slice-read-form-of
+    form-of-requires
+    form-length-requires
+    cast-width
+    add-bytes
+    add-i
+    loop-less
+    loop-again
+    returns)

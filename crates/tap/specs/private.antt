@@ -1,0 +1,3 @@
+-- What the crate's own functions come to. No promise to a caller cites these.
+pub mod Forms
+pub mod Reader
