@@ -22,14 +22,14 @@ use Rattle.pulse.specs.Pulse.{classes}
 use Rattle.byte.specs.declared.ByteRead.{ByteRead}
 use Rattle.byte.specs.declared.ByteRead.the-variants.{Good, Bad}
 use Rattle.byte.specs.Byte.{byteAt}
-use Rattle.byte.specs.private.Decoder.{bitsAt}
-use Rattle.byte.proofs.ValueLaws.{good-bits}
 use Rattle.block.specs.declared.rules.Check.{Check}
 use Rattle.block.specs.declared.rules.Check.the-variants.{Sound, LostAt, WrongSum}
 use Rattle.block.specs.Block.{xorFrom, checksum}
 use Rattle.block.specs.Reading.{Place, FromOne, FromTwo, Lost, placeOf, noValue, placeValue, placeAt, isLost, valueAt, valuesAt, sumHolds}
+use Rattle.block.specs.private.Values.{bitsAt}
 use Rattle.block.specs.private.Flags.{flagAt, raised}
 use Rattle.block.specs.private.Checks.{checkOf, readAs, notFromOne, flagged, NoneRaised, Flags, Checked, soundAt, pickedAt}
+use Rattle.block.proofs.ValueLaws.{good-bits}
 use Rattle.block.proofs.FlagLaws.{length-raised, raised-same, raised-other}
 
 -- ---- The sum: with the checksum XORed too it is 0 exactly where the checksum holds

@@ -1,5 +1,6 @@
 mod Countdowns
 mod FlagLaws
+mod ValueLaws
 mod Writing
 mod Checking
 mod Answers

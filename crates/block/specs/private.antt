@@ -1,3 +1,4 @@
 -- What the crate's own functions come to. No promise to a caller cites these.
 pub mod Flags
+pub mod Values
 pub mod Checks

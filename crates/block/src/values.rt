@@ -8,8 +8,8 @@ ghost use mathlib.Core.Bool.{true};
 ghost use lib.ListN.{length};
 ghost use lib.Seq.{sets};
 ghost use Rattle.lists.specs.Places.{tabulate};
-ghost use Rattle.byte.specs.private.Decoder.{bitsAt};
 ghost use Rattle.start.specs.Copies.{copyPulses};
+ghost use Rattle.block.specs.private.Values.{bitsAt};
 ghost use Rattle.block.specs.private.Checks.{NoneRaised, soundAt, pickedAt};
 
 // Puts the values of a block that passed, from copy two where a place's flag is raised and from copy one elsewhere. No byte is checked.

@@ -1,10 +1,9 @@
 mod Parity
-mod PairLaws
+pub mod PairLaws
 mod Decoding
 mod NibbleLaws
 pub mod Stores
 pub mod CodingLaws
 pub mod ByteLaws
-pub mod ValueLaws
 pub mod DamageLaws
 mod Matching

@@ -27,7 +27,7 @@ use Rattle.file.specs.File.{File, fileHeader, headerPulses, dataPulses, 
 use Rattle.file.specs.Reading.{FileRead, loadedOf, headerOf, bytesOf, readFile, fileAnswer, FilePromise}
 use Rattle.file.specs.Damage.{FileDamaged}
 use Rattle.file.specs.Claim.{Sent, Enough, FileReturned, SameFile, Demand3}
-use Rattle.file.proofs.FileLaws.{Taken, accepted-taken, taken-accepted, length-filePulses, readFileBy-damaged}
+use Rattle.file.proofs.FileLaws.{Taken, writeFile-taken, writeFile-accepted, length-filePulses, readFileBy-damaged}
 use Rattle.file.proofs.ReaderLaws.{rules-damaged}
 
 -- what the file is read as
@@ -42,10 +42,10 @@ answered-is (Refused r) l e = absurd (let z : _≡_ {A = ℕ} 0 1 = cc in omega 
 
 module _ {f : File} {out out′ : List ℕ} {count : ℕ} (sent : Sent f out count out′) where
   pub taken : Taken (length out) f
-  taken = let w = mapped-accepted length (writeFile (length out) f) (sent .promised .0) in accepted-taken (length out) f (w .0) (w .1)
+  taken = let w = mapped-accepted length (writeFile (length out) f) (sent .promised .0) in writeFile-taken (length out) f (w .0) (w .1)
 
   length-count : length (filePulses f) ≡ count
-  length-count = let e = rw (taken-accepted (length out) f taken) at (sent .promised .0) in cc
+  length-count = let e = rw (writeFile-accepted (length out) f taken) at (sent .promised .0) in cc
 
   -- ---- The strip lies within its damage
 
@@ -115,7 +115,7 @@ pub sent-strip : {f : File} {out out′ : List ℕ} {count : ℕ} → Sent f out
 sent-strip {f} {out} sent =
     let t = taken sent in
     let fits = t .fits in
-    rw (sent .promised .1, taken-accepted (length out) f t, ← (length-count sent)) (part-put out 0 (filePulses f) (omega arith))
+    rw (sent .promised .1, writeFile-accepted (length out) f t, ← (length-count sent)) (part-put out 0 (filePulses f) (omega arith))
 
 sent-undamaged : {f : File} {out out′ : List ℕ} {count : ℕ} → Sent f out count out′ → FileDamaged fixed f count (part out′ 0 count)
 sent-undamaged {f} sent = rw (sent-strip sent, ← (length-count sent)) (file-undamaged f)

@@ -36,15 +36,15 @@ use Rattle.file.proofs.ReaderLaws.{PayloadLength, ReadsDamaged}
 
 -- ---- The tests in words
 
-kind-right : (kind : ℕ) → notProgram kind ≡ false → (kind ≡ 1) ⊎ (kind ≡ 3)
-kind-right kind e = elim (or-true (eqb kind 1) (eqb kind 3) (not-false (eqb kind 1 || eqb kind 3) e)) [
+notProgram-kind : (kind : ℕ) → notProgram kind ≡ false → (kind ≡ 1) ⊎ (kind ≡ 3)
+notProgram-kind kind e = elim (or-true (eqb kind 1) (eqb kind 3) (not-false (eqb kind 1 || eqb kind 3) e)) [
   | inl h ↦ inl (eqb-true kind 1 h)
   | inr h ↦ inr (eqb-true kind 3 h)
 ]
 
-right-kind : (kind : ℕ) → (kind ≡ 1) ⊎ (kind ≡ 3) → notProgram kind ≡ false
-right-kind kind (inl e) = rw e
-right-kind kind (inr e) = rw e
+notProgram-right : (kind : ℕ) → (kind ≡ 1) ⊎ (kind ≡ 3) → notProgram kind ≡ false
+notProgram-right kind (inl e) = rw e
+notProgram-right kind (inr e) = rw e
 
 -- the data block of right addresses has 1 to 8,192 bytes
 pub wrongAddresses-within : (f : Fields) → wrongAddresses f ≡ false → Within 1 8192 (dataBytes f)
@@ -107,9 +107,9 @@ pub record Taken (room : ℕ) (f : File) : Type 0 where
   pub fits : length (filePulses f) ≤ room
 
 -- it accepts exactly such files
-pub accepted-taken : (room : ℕ) (f : File) (strip : List ℕ) → writeFile room f ≡ accepted strip → Taken room f
+pub writeFile-taken : (room : ℕ) (f : File) (strip : List ℕ) → writeFile room f ≡ accepted strip → Taken room f
 unfolding writeFile writeProgram writeBlocks
-accepted-taken room f strip e =
+writeFile-taken room f strip e =
     let n = cond-accepted (wrongName (length (f .name))) (refusalAt WrongSize 0) _ strip e in
     let a = andThen-accepted (measureData (f .fields)) _ strip (n .1) in
     let m = measureData-accepted (f .fields) (a .0) (a .1) in
@@ -120,7 +120,7 @@ accepted-taken room f strip e =
     record {
       right = record {
         name = ltb-false 187 (length (f .name)) (n .0);
-        kind = kind-right (f .fields .kind) (m .0);
+        kind = notProgram-kind (f .fields .kind) (m .0);
         addresses = wrongAddresses-within (f .fields) (m .1);
         size = m .2 ∙ eqb-true (a .0) (length (f .bytes)) (not-false (eqb (a .0) (length (f .bytes))) (s .0));
         leader₀ = wrongLeader-within (f .leader₀) (l₀ .0);
@@ -129,13 +129,13 @@ accepted-taken room f strip e =
       fits = r .0;
     }
 
-pub taken-accepted : (room : ℕ) (f : File) → Taken room f → writeFile room f ≡ accepted (filePulses f)
+pub writeFile-accepted : (room : ℕ) (f : File) → Taken room f → writeFile room f ≡ accepted (filePulses f)
 unfolding writeFile writeProgram writeBlocks
-taken-accepted room f t =
+writeFile-accepted room f t =
     let right = t .right in
     rw (
       le-ltb 187 (length (f .name)) (right .name),
-      measureData-right (f .fields) (right-kind (f .fields .kind) (right .kind)) (wrongAddresses-right (f .fields) (right .addresses)),
+      measureData-right (f .fields) (notProgram-right (f .fields .kind) (right .kind)) (wrongAddresses-right (f .fields) (right .addresses)),
       eq-eqb (dataBytes (f .fields)) (length (f .bytes)) (right .size),
       wrongLeader-right (f .leader₀) (right .leader₀),
       wrongLeader-right (f .leader₁) (right .leader₁),
@@ -164,7 +164,7 @@ readFileBy-both f typed right read headerRoom dataRoom from p₀ p₁ h b one tw
     let e : readData read headerRoom dataRoom (endOf p₀ 192) (fileHeader f) ≡ mapped (fileRead (fileHeader f)) (ofBlock 1 (read (endOf p₀ 192) n)) =
     rw (
       same,
-      measureData-right (f .fields) (right-kind (f .fields .kind) (right .kind)) (wrongAddresses-right (f .fields) (right .addresses)),
+      measureData-right (f .fields) (notProgram-right (f .fields .kind) (right .kind)) (wrongAddresses-right (f .fields) (right .addresses)),
       ifRoom-room headerRoom 192 _ h,
       ifRoom-room dataRoom n _ b,
     )

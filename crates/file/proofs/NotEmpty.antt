@@ -11,10 +11,10 @@ use Rattle.lists.proofs.PlaceLaws.{below-one}
 use Rattle.refusal.proofs.PromiseLaws.{written-accepted}
 use Rattle.file.specs.File.{File, file, filePulses, writeFile}
 use Rattle.file.specs.Claim.{Typed, Sent, Enough}
-use Rattle.file.proofs.FileLaws.{Taken, taken-accepted}
+use Rattle.file.proofs.FileLaws.{Taken, writeFile-accepted}
 
 pub right-sent : {f : File} (out : List ℕ) → Typed f → Taken (length out) f → Sent f out (length (filePulses f)) (putAt out 0 (filePulses f))
-right-sent {f} out typed t = record { typed = typed; promised = written-accepted (writeFile (length out) f) out (taken-accepted (length out) f t) refl refl }
+right-sent {f} out typed t = record { typed = typed; promised = written-accepted (writeFile (length out) f) out (writeFile-accepted (length out) f t) refl refl }
 
 -- type 1, no name, one byte
 abbrev pub smallest : File

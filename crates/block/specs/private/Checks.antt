@@ -9,11 +9,11 @@ use Rattle.pulse.specs.declared.Thresholds.{Thresholds}
 use Rattle.pulse.specs.declared.Class.{Class}
 use Rattle.byte.specs.declared.ByteRead.{ByteRead}
 use Rattle.byte.specs.declared.ByteRead.the-variants.{Good, Bad}
-use Rattle.byte.specs.private.Decoder.{bitsAt}
 use Rattle.start.specs.Copies.{bytePlace}
 use Rattle.block.specs.declared.rules.Check.{Check}
 use Rattle.block.specs.declared.rules.Check.the-variants.{Sound, LostAt, WrongSum}
 use Rattle.block.specs.Reading.{Place, FromOne, FromTwo, Lost, isLost, sumHolds, placeAt}
+use Rattle.block.specs.private.Values.{bitsAt}
 use Rattle.block.specs.private.Flags.{flagAt, raised}
 
 -- the first lost place, if there is one; else whether the checksum holds

@@ -1,18 +1,14 @@
--- How bytes are read: pair by pair, looked for, or known to be good.
+-- How bytes are read: pair by pair, or looked for.
 use Prim.Native.Nat.{ℕ, _+_, _*_, _/_, _%_, _^_}
 use mathlib.Core.Bool.{Bool, true, cond, _&&_}
-use mathlib.Core.List.{List}
 use lib.Bits.{bitOr}
 use lib.Count.{ones}
-use lib.Dec.{eqb, leb}
-use lib.ListN.{getD}
-use Rattle.lists.specs.Places.{tabulate}
-use Rattle.pulse.specs.declared.Thresholds.{Thresholds}
+use lib.Dec.{eqb}
 use Rattle.byte.specs.declared.Pair.{Pair}
 use Rattle.byte.specs.declared.Decoder.{Decoder}
 use Rattle.byte.specs.declared.ByteRead.{ByteRead}
 use Rattle.byte.specs.declared.ByteRead.the-variants.{Good, Bad}
-use Rattle.byte.specs.Byte.{isOdd, parityBit, isSound, bitOf, valueOf}
+use Rattle.byte.specs.Byte.{isOdd, parityBit, isSound, bitOf}
 
 -- ---- A byte read pair by pair; that ten pairs come to `byteOf` is shown in proofs/Decoding.antt
 
@@ -41,13 +37,3 @@ isPair i bit p = cond (eqb i 0) (p .marker) (cond (eqb bit 0) (p .zero) (p .one)
 -- pair i is as in this byte
 abbrev pub fits : (value i : ℕ) → Pair → Bool
 fits v i p = isPair i (codeOf v / 2 ^ i % 2) p
-
--- ---- A byte that is known to be good: its value by the first pulses of its pairs
-
--- the bit of pair i of the pulses from a place on: 1 where its first pulse is not below the medium threshold
-abbrev pub leadBit : (t : Thresholds) (strip : List ℕ) (at i : ℕ) → ℕ
-leadBit t strip at i = cond (leb (t .medium) (getD strip (at + 2 * i) 0)) 1 0
-
--- the number with the bits of pairs 1 to 8
-unfoldable pub bitsAt : (t : Thresholds) (strip : List ℕ) (at : ℕ) → ℕ
-bitsAt t strip at = valueOf (tabulate (leadBit t strip at) 8 1)

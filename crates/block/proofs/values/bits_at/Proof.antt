@@ -3,7 +3,7 @@ use Prim.Native.Nat.{_-_, _≤_}
 use native.Mathlib.Omega.{arith}
 use borrow.Author.Needs.{needs}
 use denote.Ref.{now}
-use Rattle.byte.proofs.ValueLaws.{BitsRead, bits-begun, bits-next, bits-done}
+use Rattle.block.proofs.ValueLaws.{BitsRead, bits-begun, bits-next, bits-done}
 use Rattle.block.proofs.values.bits_at.Statement.{statement}
 use Rattle.block.proofs.values.bits_at.Tie as tie
 

@@ -11,7 +11,7 @@ use denote.Ref.{now}
 use lib.Seq.{sets}
 use Rattle.lists.specs.Places.{tabulate}
 use Rattle.lists.proofs.LoopLaws.{put-begun, put-one, put-done, table-begun, table-next, table-over, Putting, tableLeft}
-use Rattle.byte.specs.private.Decoder.{bitsAt}
+use Rattle.block.specs.private.Values.{bitsAt}
 use Rattle.block.specs.private.Flags.{flagAt}
 use Rattle.block.specs.private.Checks.{pickedAt}
 use Rattle.block.proofs.Checking.{sound-picked}
