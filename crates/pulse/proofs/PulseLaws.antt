@@ -2,17 +2,18 @@
 use Prim.Native.Nat.{ℕ, zero, suc, _+_, _^_, _<_}
 use native.Mathlib.Omega.{arith}
 use mathlib.Core.Path.{_≡_, refl, sym, ap, ap₂, _∙_}
+use mathlib.Core.Logic.{_⊎_, inl, inr}
 use mathlib.Core.Bool.{Bool, true, false, cond, not, _&&_}
 use mathlib.Core.List.{List, [], _∷_, _++_, map-append}
 use borrow.Author.Tests.{eqb-true}
 use lib.Dec.{ltb, lit<}
-use lib.ListN.{length, getD, length-map}
+use lib.ListN.{length, getD, replicate, length-map, List·getD-map}
 use lib.Seq.{sets}
 use Rattle.lists.proofs.LoopLaws.{Putting, put-next}
 use Rattle.pulse.specs.declared.Thresholds.{Thresholds}
 use Rattle.pulse.specs.declared.Class.{Class}
 use Rattle.pulse.specs.declared.Class.the-variants.{Short, Medium, Long, Noise}
-use Rattle.pulse.specs.Pulse.{fixed, classOf, classes, code, same, writtenAs, pulses}
+use Rattle.pulse.specs.Pulse.{fixed, classOf, classes, code, same, writtenAs, pulses, NoNoise, Figures}
 use Rattle.pulse.specs.Figures.{RoundedFigures, ntsc, pal}
 
 -- ---- classes
@@ -57,9 +58,9 @@ tests false false true n = record { short = refl; medium = refl; long = refl }
 tests false false false true = record { short = refl; medium = refl; long = refl }
 tests false false false false = record { short = refl; medium = refl; long = refl }
 
-pub class-tests : (t : Thresholds) (x : ℕ) → Tests (ltb x (t .short)) (ltb x (t .medium)) (ltb x (t .long)) (ltb x (t .noise)) (classOf t x)
+pub class-tests : (t : Thresholds) (x : ℕ) → Tests (ltb x (t .short .0)) (ltb x (t .medium .0)) (ltb x (t .long .0)) (ltb x (t .noise .0)) (classOf t x)
 unfolding classOf
-class-tests t x = tests (ltb x (t .short)) (ltb x (t .medium)) (ltb x (t .long)) (ltb x (t .noise))
+class-tests t x = tests (ltb x (t .short .0)) (ltb x (t .medium .0)) (ltb x (t .long .0)) (ltb x (t .noise .0))
 
 -- ---- Written figures
 
@@ -88,6 +89,36 @@ pub put-pulses : {before : List ℕ} {at : ℕ} {values buffer buffer′ : List 
     → Putting before at values buffer′ p′ (pulses later)
 put-pulses {p = p} now later u e l q =
     put-next u (pulses now) (pulses later) (map-append writtenAs now later) e (q ∙ ap (λ n. p + n) (sym (length-map now writtenAs ∙ l)))
+
+-- ---- NoNoise
+
+pub noNoise-none : NoNoise []
+noNoise-none i h = absurd (omega arith)
+
+pub noNoise-cons : (c : Class) (cs : List Class) → same c Noise ≡ false → NoNoise cs → NoNoise (c ∷ cs)
+noNoise-cons c cs first rest zero h = first
+noNoise-cons c cs first rest (suc i) h = rest i (omega arith)
+
+pub noNoise-append : (cs ds : List Class) → NoNoise cs → NoNoise ds → NoNoise (cs ++ ds)
+noNoise-append [] ds m n = n
+noNoise-append (c ∷ cs) ds m n = noNoise-cons c (cs ++ ds) (m 0 (omega arith)) (noNoise-append cs ds (λ i h. m (suc i) (omega arith)) n)
+
+pub noNoise-replicate : (k : ℕ) (c : Class) → same c Noise ≡ false → NoNoise (replicate k c)
+noNoise-replicate zero c e = noNoise-none
+noNoise-replicate (suc k) c e = noNoise-cons c (replicate k c) e (noNoise-replicate k c e)
+
+-- without noise only the three figures are written
+figure : (c : Class) → same c Noise ≡ false → (writtenAs c ≡ 360) ⊎ ((writtenAs c ≡ 520) ⊎ (writtenAs c ≡ 688))
+unfolding same
+figure Short e = inl refl
+figure Medium e = inr (inl refl)
+figure Long e = inr (inr refl)
+figure Noise e = absurd (let z : _≡_ {A = ℕ} 0 1 = cc in omega arith)
+
+pub figures-pulses : (cs : List Class) → NoNoise cs → Figures (pulses cs)
+figures-pulses cs n i h = rw (List·getD-map writtenAs cs i Noise) (figure (getD cs i Noise) (n i (rw (length-map cs writtenAs) at h)))
+
+-- ---- Where the written figures come from
 
 pub written-ntsc : RoundedFigures ntsc
 written-ntsc = record { short = refl; medium = refl; long = refl }

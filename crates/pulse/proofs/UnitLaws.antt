@@ -1,5 +1,6 @@
 -- Laws of the two conversions: when each gives a number, and that they are inverse to each other.
 use Prim.Native.Nat.{ℕ, _*_, _/_, _%_, _^_, _<_}
+use native.Mathlib.Decide.{ℕ-discrete}
 use native.Mathlib.Omega.{arith}
 use mathlib.Core.Path.{_≡_}
 use borrow.Author.Tests.{lt-ltb, eq-eqb, ne-eqb, eqb-true}
@@ -8,6 +9,7 @@ use Rattle.lists.proofs.BoolLaws.{cond-first}
 use Rattle.pulse.specs.declared.Cycles.{Cycles}
 use Rattle.pulse.specs.declared.Units.{Units}
 use Rattle.pulse.specs.declared.InCycles.the-variants.{Fits, TooLong}
+use Rattle.pulse.specs.declared.InUnits.{InUnits}
 use Rattle.pulse.specs.declared.InUnits.the-variants.{Whole, Between}
 use Rattle.pulse.specs.Units.{unitCycles, cyclesOf, unitsOf}
 
@@ -40,3 +42,17 @@ units-whole c m = rw (eq-eqb (c .0 % unitCycles) 0 m)
 pub units-between : (c : Cycles) → (c .0 % unitCycles ≡ 0 → ⊥) → unitsOf c ≡ Between
 unfolding unitsOf
 units-between c m = rw (ne-eqb (c .0 % unitCycles) 0 m)
+
+-- and what an answer says of the cycles
+module _ (c : Cycles) {r : InUnits} (e : r ≡ unitsOf c) where
+  pub between-units : r ≡ Between → c .0 % unitCycles ≡ 0 → ⊥
+  between-units q m = let w = units-whole c m in let z : _≡_ {A = ℕ} 0 1 = cc in omega arith
+
+  pub whole-units : {u : Units} → r ≡ Whole u → (c .0 % unitCycles ≡ 0) × (u .0 ≡ c .0 / unitCycles)
+  whole-units {u} q = elim (ℕ-discrete (c .0 % unitCycles) 0) [
+    | yes m ↦
+        let w = units-whole c m in
+        let s : u ≡ record { 0 = c .0 / unitCycles } = cc in
+        (m, rw s)
+    | no m ↦ absurd (let w = units-between c m in let z : _≡_ {A = ℕ} 0 1 = cc in omega arith)
+  ]

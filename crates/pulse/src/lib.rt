@@ -6,7 +6,7 @@
 ghost use mathlib.Core.Path.{_≡_};
 ghost use mathlib.Core.Bool.{cond};
 ghost use Rattle.pulse.specs.Pulse.{classOf, fixed, writtenAs, same};
-ghost use Rattle.pulse.specs.Units.{byteCycles, cyclesOf, unitsOf};
+ghost use Rattle.pulse.specs.Units.{byteCycles, threeByteCycles, cyclesOf, unitsOf};
 
 pub enum Class {
     Short,
@@ -20,17 +20,17 @@ pub struct Cycles(pub u32);
 
 // Where each class begins, and where noise begins again.
 pub struct Thresholds {
-    pub short: u32,
-    pub medium: u32,
-    pub long: u32,
-    pub noise: u32,
+    pub short: Cycles,
+    pub medium: Cycles,
+    pub long: Cycles,
+    pub noise: Cycles,
 }
 
 pub const FIXED: Thresholds = Thresholds {
-    short: 200,
-    medium: 440,
-    long: 608,
-    noise: 960,
+    short: Cycles(200),
+    medium: Cycles(440),
+    long: Cycles(608),
+    noise: Cycles(960),
 };
 
 impl Thresholds {
@@ -48,15 +48,15 @@ pub fn class_of(t: Thresholds, pulse: Cycles) -> Class
 {
     let cycles = pulse.0;
     pick(
-        cycles < t.short,
+        cycles < t.short.0,
         Class::Noise,
         pick(
-            cycles < t.medium,
+            cycles < t.medium.0,
             Class::Short,
             pick(
-                cycles < t.long,
+                cycles < t.long.0,
                 Class::Medium,
-                pick(cycles < t.noise, Class::Long, Class::Noise),
+                pick(cycles < t.noise.0, Class::Long, Class::Noise),
             ),
         ),
     )
@@ -67,21 +67,21 @@ pub fn is_short(t: Thresholds, pulse: Cycles) -> bool
     ensures { λ r. ⌜ r ≡ same (classOf t (pulse .0)) Class.Short ⌝ }
 {
     let cycles = pulse.0;
-    (t.short <= cycles) & (cycles < t.medium)
+    (t.short.0 <= cycles) & (cycles < t.medium.0)
 }
 
 pub fn is_medium(t: Thresholds, pulse: Cycles) -> bool
     ensures { λ r. ⌜ r ≡ same (classOf t (pulse .0)) Class.Medium ⌝ }
 {
     let cycles = pulse.0;
-    (t.short <= cycles) & (t.medium <= cycles) & (cycles < t.long)
+    (t.short.0 <= cycles) & (t.medium.0 <= cycles) & (cycles < t.long.0)
 }
 
 pub fn is_long(t: Thresholds, pulse: Cycles) -> bool
     ensures { λ r. ⌜ r ≡ same (classOf t (pulse .0)) Class.Long ⌝ }
 {
     let cycles = pulse.0;
-    (t.short <= cycles) & (t.medium <= cycles) & (t.long <= cycles) & (cycles < t.noise)
+    (t.short.0 <= cycles) & (t.medium.0 <= cycles) & (t.long.0 <= cycles) & (cycles < t.noise.0)
 }
 
 // One of two classes.
@@ -91,20 +91,20 @@ fn pick(test: bool, yes: Class, no: Class) -> Class
     if test { yes } else { no }
 }
 
-pub const SHORT_CYCLES: u32 = 360;
+pub const SHORT_CYCLES: Cycles = Cycles(360);
 
-pub const MEDIUM_CYCLES: u32 = 520;
+pub const MEDIUM_CYCLES: Cycles = Cycles(520);
 
-pub const LONG_CYCLES: u32 = 688;
+pub const LONG_CYCLES: Cycles = Cycles(688);
 
 // What a pulse of a class is written as. Noise is never written: it has 0 cycles, which are noise.
 pub fn written_as(c: Class) -> Cycles
     ensures { λ r. ⌜ r .0 ≡ writtenAs c ⌝ }
 {
     match c {
-        Class::Short => Cycles(SHORT_CYCLES),
-        Class::Medium => Cycles(MEDIUM_CYCLES),
-        Class::Long => Cycles(LONG_CYCLES),
+        Class::Short => SHORT_CYCLES,
+        Class::Medium => MEDIUM_CYCLES,
+        Class::Long => LONG_CYCLES,
         Class::Noise => Cycles(0),
     }
 }
@@ -115,7 +115,7 @@ pub struct Units(pub u32);
 const UNIT_CYCLES: u32 = 8;
 
 // The largest number of units whose cycles a pulse can count.
-const MOST_UNITS: u32 = 0x1fff_ffff;
+const MOST_UNITS: Units = Units(0x1fff_ffff);
 
 // A number of units in cycles. There is none where it does not fit a pulse's 32 bits.
 pub enum InCycles {
@@ -133,7 +133,7 @@ pub fn cycles_of(u: Units) -> InCycles
     ensures { λ r. ⌜ r ≡ cyclesOf u ⌝ }
 {
     let units = u.0;
-    if units <= MOST_UNITS {
+    if units <= MOST_UNITS.0 {
         InCycles::Fits(Cycles(units * UNIT_CYCLES))
     } else {
         InCycles::TooLong
@@ -145,6 +145,13 @@ pub fn byte_cycles(units: u8) -> Cycles
     ensures { λ r. ⌜ r .0 ≡ byteCycles units ⌝ }
 {
     Cycles(units as u32 * UNIT_CYCLES)
+}
+
+// The cycles of as many units as three bytes count, low first. These always fit, too.
+pub fn three_byte_cycles(low: u8, middle: u8, high: u8) -> Cycles
+    ensures { λ r. ⌜ r .0 ≡ threeByteCycles low middle high ⌝ }
+{
+    Cycles(lists::from_low(&[low, middle, high]) * UNIT_CYCLES)
 }
 
 pub fn units_of(c: Cycles) -> InUnits

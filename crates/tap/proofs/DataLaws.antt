@@ -1,17 +1,15 @@
 -- Laws of the data of a TAP file: one form after the other.
-use Prim.Native.Nat.{ℕ, zero, suc, _+_, _-_, _*_, _^_, _≤_, _<_}
+use Prim.Native.Nat.{ℕ, zero, suc, _+_, _-_, _*_, _≤_, _<_}
 use native.Mathlib.Nat.{add-zero}
 use native.Mathlib.Omega.{arith}
 use mathlib.Core.Path.{_≡_, refl, sym, ap, _∙_}
 use mathlib.Core.Bool.{true}
 use mathlib.Core.List.{List, [], _∷_, _++_, map}
 use borrow.Author.Tests.{eq-eqb, ne-eqb}
-use lib.Dec.{lit≤}
 use lib.ListN.{length, take, drop, getD, length-drop, length-map, drop-of-length-le, take-append-drop}
-use lib.Seq.{drop-drop, getD-drop, length-take-le}
-use Rattle.lists.specs.Places.{part, Below}
+use lib.Seq.{drop-cons, drop-drop, getD-drop, length-take-le}
+use Rattle.lists.specs.Places.{part}
 use Rattle.lists.specs.Text.{fromLow}
-use Rattle.lists.proofs.TextLaws.{fromLow-part, fromLow-part-lt}
 use Rattle.refusal.specs.declared.Reason.the-variants.{CutLongForm}
 use Rattle.refusal.specs.Outcome.{Outcome, refused, accepted, refuse, mapped, andThen}
 use Rattle.refusal.proofs.OutcomeLaws.{andThen-accepted, mapped-accepted, ifRoom-room}
@@ -143,13 +141,16 @@ module _ (bytes : List ℕ) (i : ℕ) where
 
 -- ---- What the long form counts
 
-module _ (bytes : List ℕ) (i : ℕ) (fits : i + 4 ≤ length bytes) where
-  -- `lists::from_low` reads four bytes at the most
-  pub longCycles-number : {n : ℕ} → n ≡ fromLow (take 4 (part bytes (i + 1) (i + 4 - (i + 1)))) → n ≡ fromLow (part bytes (i + 1) 3)
-  longCycles-number e = let count : i + 4 - (i + 1) ≡ 3 = omega arith in e ∙ rw count (fromLow-part bytes (i + 1) 3 (lit≤ tt))
-
-  pub longCycles-number-lt : Below 256 bytes → fromLow (part bytes (i + 1) 3) < 256 ^ 3
-  longCycles-number-lt below = fromLow-part-lt bytes (i + 1) 3 below (omega arith)
+-- the three bytes after the first
+pub longCycles-bytes : (bytes : List ℕ) (i : ℕ) → i + 4 ≤ length bytes
+    → fromLow (getD bytes (i + 1) 0 ∷ getD bytes (i + 2) 0 ∷ getD bytes (i + 3) 0 ∷ []) * unitCycles ≡ longCycles bytes i
+longCycles-bytes bytes i h =
+    let three = ap (λ l. getD bytes (i + 2) 0 ∷ l) (next (i + 3) (i + 4) (omega arith) (omega arith)) in
+    let two = ap (λ l. getD bytes (i + 1) 0 ∷ l) (next (i + 2) (i + 3) (omega arith) (omega arith) ∙ three) in
+    ap (λ l. fromLow (take 3 l) * longUnit) (sym (next (i + 1) (i + 2) (omega arith) (omega arith) ∙ two))
+  where
+    next : (j k : ℕ) → j < length bytes → suc j ≡ k → drop j bytes ≡ getD bytes j 0 ∷ drop k bytes
+    next j k w e = drop-cons bytes j 0 w ∙ ap (λ n. getD bytes j 0 ∷ drop n bytes) e
 
 -- ---- How many durations there are
 

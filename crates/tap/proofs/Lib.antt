@@ -2,6 +2,7 @@ mod GroupLaws
 mod UnitLaws
 mod HeaderLaws
 mod ReaderLaws
+mod ApartLaws
 mod WriterLaws
 pub mod DataLaws
 pub mod FormLaws

@@ -1,37 +1,35 @@
--- What the conversions between units and cycles come to.
-use Prim.Native.Nat.{ℕ, _/_, _%_, _≤_, _<_}
-use native.Mathlib.Decide.{ℕ-discrete}
-use native.Mathlib.Omega.{arith}
-use mathlib.Core.Path.{_≡_, sym, _∙_}
+-- What a duration in units comes to: the units that one byte counts, and the long form.
+use Prim.Native.Nat.{_^_, _≤_, _<_}
+use mathlib.Core.Path.{_≡_, sym, ap, _∙_}
+use mathlib.Core.List.{[], _∷_}
+use Rattle.lists.specs.Text.{lowFirst}
+use Rattle.pulse.specs.declared.Cycles.{Cycles}
 use Rattle.pulse.specs.declared.Units.{Units}
 use Rattle.pulse.specs.declared.InUnits.{InUnits}
 use Rattle.pulse.specs.declared.InUnits.the-variants.{Whole, Between}
-use Rattle.pulse.specs.Units.{unitCycles, unitsOf}
-use Rattle.pulse.proofs.UnitLaws.{units-whole, units-between}
+use Rattle.pulse.specs.Units.{unitsOf}
+use Rattle.pulse.proofs.UnitLaws.{between-units, whole-units}
+use Rattle.tap.specs.Tap.{longForm}
 use Rattle.tap.specs.private.Forms.{byteUnits}
-use Rattle.tap.proofs.FormLaws.{byteUnits-between, byteUnits-few, byteUnits-many}
+use Rattle.tap.proofs.FormLaws.{byteUnits-between, byteUnits-few, byteUnits-many, longForm-between, longForm-fits, longForm-over}
 
--- ---- A duration in units
+module _ (c : Cycles) {r : InUnits} (e : r ≡ unitsOf c) where
+  module _ (q : r ≡ Between) where
+    pub unitsOf-none : 0 ≡ byteUnits (c .0)
+    unitsOf-none = sym (byteUnits-between (c .0) (between-units c e q))
 
-module _ (d : ℕ) {r : InUnits} (e : r ≡ unitsOf (record { 0 = d })) where
-  pub unitsOf-between : r ≡ Between → 0 ≡ byteUnits d
-  unitsOf-between q = elim (ℕ-discrete (d % unitCycles) 0) [
-    | yes m ↦ absurd (let w = units-whole (record { 0 = d }) m in let z : _≡_ {A = ℕ} 0 1 = cc in omega arith)
-    | no m ↦ sym (byteUnits-between d m)
-  ]
+    pub unitsOf-noForm : [] ≡ longForm (c .0)
+    unitsOf-noForm = sym (longForm-between (c .0) (between-units c e q))
 
   module _ {u : Units} (q : r ≡ Whole u) where
-    unitsOf-whole : (d % unitCycles ≡ 0) × (u .0 ≡ d / unitCycles)
-    unitsOf-whole = elim (ℕ-discrete (d % unitCycles) 0) [
-      | yes m ↦
-          let w = units-whole (record { 0 = d }) m in
-          let s : u ≡ record { 0 = d / unitCycles } = cc in
-          (m, rw s)
-      | no m ↦ absurd (let w = units-between (record { 0 = d }) m in let z : _≡_ {A = ℕ} 0 1 = cc in omega arith)
-    ]
+    pub unitsOf-few : u .0 ≤ 255 → u .0 ≡ byteUnits (c .0)
+    unitsOf-few h = let w = whole-units c e q in w .1 ∙ sym (byteUnits-few (c .0) (w .0) (rw (w .1) at h))
 
-    pub unitsOf-few : u .0 ≤ 255 → u .0 ≡ byteUnits d
-    unitsOf-few h = unitsOf-whole .1 ∙ sym (byteUnits-few d (unitsOf-whole .0) (rw (unitsOf-whole .1) at h))
+    pub unitsOf-many : 255 < u .0 → 0 ≡ byteUnits (c .0)
+    unitsOf-many h = let w = whole-units c e q in sym (byteUnits-many (c .0) (w .0) (rw (w .1) at h))
 
-    pub unitsOf-many : 255 < u .0 → 0 ≡ byteUnits d
-    unitsOf-many h = sym (byteUnits-many d (unitsOf-whole .0) (rw (unitsOf-whole .1) at h))
+    pub unitsOf-fits : u .0 < 2 ^ 24 → 0 ∷ lowFirst 3 (u .0) ≡ longForm (c .0)
+    unitsOf-fits h = let w = whole-units c e q in ap (λ n. 0 ∷ lowFirst 3 n) (w .1) ∙ sym (longForm-fits (c .0) (w .0) (rw (w .1) at h))
+
+    pub unitsOf-over : 2 ^ 24 ≤ u .0 → [] ≡ longForm (c .0)
+    unitsOf-over h = let w = whole-units c e q in sym (longForm-over (c .0) (w .0) (rw (w .1) at h))

@@ -16,7 +16,7 @@ ghost use Rattle.refusal.specs.Outcome.{accepted, mapped, puts};
 ghost use Rattle.refusal.specs.Promise.{putAnswer};
 ghost use Rattle.tap.specs.Reading.{durationsIn, TapPromise};
 ghost use Rattle.tap.specs.private.Forms.{loneCycles};
-ghost use Rattle.tap.specs.private.Reader.{readDurations, Counted, CountedTo, Fillable, FilledTo};
+ghost use Rattle.tap.specs.private.Reader.{readDurations, Counted, CountedTo, formEnd, Fillable, FilledTo};
 
 // Reads the data of a file whose header is sound.
 pub fn read_durations(version: u8, bytes: &[u8], out: &mut [u32]) -> TapAnswer
@@ -80,7 +80,46 @@ fn count_group(bytes: &[u8], start: usize, count: usize) -> FormPlace
             count: count + (end - start),
         };
     }
+    if bytes.len() - end < LONG_BYTES {
+        return count_each(bytes, start, end, count);
+    }
+    count_mixed(bytes, start, end, count)
+}
+
+// Counts a group with zero bytes, after which a long form has room. Where no zero byte stands in the three bytes after another, each begins
+// a long form, and for each there are three durations fewer than bytes.
+fn count_mixed(bytes: &[u8], start: usize, end: usize, count: usize) -> FormPlace
+    requires { ⌜ (start + 4 ≤ end) × (end ≤ start + 128) × (end + 4 ≤ length (now bytes)) ⌝ }
+    requires { ⌜ Counted (now bytes) start count ⌝ }
+    ensures { λ r. ⌜ Counted (now (bytes .entry)) (r .place) (r .count) ⌝ }
+    ensures { λ r. ⌜ CountedTo (now (bytes .entry)) start (r .place) ⌝ }
+{
+    let zeros = groups::zeros_in(bytes, start, end);
+    if zeros.apart {
+        let place = form_end(bytes, end);
+        return FormPlace {
+            place,
+            count: count + (place - start) - (LONG_BYTES - 1) * zeros.count as usize,
+        };
+    }
     count_each(bytes, start, end, count)
+}
+
+// Where the last form ends that begins before a place, if each zero byte begins a long form.
+fn form_end(bytes: &[u8], end: usize) -> usize
+    requires { ⌜ (4 ≤ end) × (end + 4 ≤ length (now bytes)) ⌝ }
+    ensures { λ r. ⌜ r ≡ formEnd (now (bytes .entry)) end ⌝ }
+{
+    if bytes[end - 1] == 0 {
+        return end + 3;
+    }
+    if bytes[end - 2] == 0 {
+        return end + 2;
+    }
+    if bytes[end - 3] == 0 {
+        return end + 1;
+    }
+    end
 }
 
 // Counts form by form, to the end of a group or a long form that is cut short.
@@ -165,7 +204,7 @@ fn fill_each(bytes: &[u8], start: usize, end: usize, out: &mut [u32], before: us
             out[k] = pulse::byte_cycles(first).0;
             i = i + 1;
         } else {
-            out[k] = forms::long_cycles(bytes, i);
+            out[k] = forms::long_cycles(bytes, i).0;
             i = i + LONG_BYTES;
         }
         k = k + 1;
@@ -180,7 +219,7 @@ fn fill_cycles(bytes: &[u8], out: &mut [u32], at: usize)
 {
     let mut i: usize = 0;
     while i < bytes.len() {
-        out[at + i] = forms::lone_cycles(bytes[i]);
+        out[at + i] = forms::lone_cycles(bytes[i]).0;
         i = i + 1;
     }
 }

@@ -5,6 +5,8 @@ use super::forms;
 use super::forms::Form;
 use super::groups;
 use super::header;
+use pulse::Cycles;
+use pulse::Units;
 use refusal::Put;
 use refusal::Reason;
 ghost use Prim.Native.Nat.{_+_, _≤_};
@@ -48,7 +50,8 @@ fn sum_widths(version: u8, durations: &[u32]) -> Widths
     let mut bytes: u32 = 0;
     let mut missing = false;
     while i < durations.len() {
-        let width = forms::form_length(forms::form_of(version, durations[i])) as u32;
+        let duration = Cycles(durations[i]);
+        let width = forms::form_length(forms::form_of(version, duration)) as u32;
         bytes = bytes + width;
         missing = missing | (width == 0);
         i = i + 1;
@@ -62,7 +65,7 @@ fn first_without(version: u8, durations: &[u32]) -> usize
     ensures { λ r. ⌜ firstWithout version (now (durations .entry)) ≡ some r ⌝ }
 {
     let mut i: usize = 0;
-    while forms::form_length(forms::form_of(version, durations[i])) != 0 {
+    while forms::form_length(forms::form_of(version, Cycles(durations[i]))) != 0 {
         i = i + 1;
     }
     i
@@ -117,7 +120,8 @@ fn all_bytes(durations: &[u32]) -> bool
     let mut i: usize = 0;
     let mut all = true;
     while i < durations.len() {
-        all = all & (forms::byte_units(durations[i]) != 0);
+        let duration = Cycles(durations[i]);
+        all = all & (forms::byte_units(duration).0 != 0);
         i = i + 1;
     }
     all
@@ -130,7 +134,8 @@ fn put_units(durations: &[u32], out: &mut [u8], at: usize)
 {
     let mut i: usize = 0;
     while i < durations.len() {
-        out[at + i] = forms::byte_units(durations[i]) as u8;
+        let duration = Cycles(durations[i]);
+        out[at + i] = forms::byte_units(duration).0 as u8;
         i = i + 1;
     }
 }
@@ -143,12 +148,13 @@ fn put_each(version: u8, durations: &[u32], out: &mut [u8], start: usize) -> usi
     let mut i: usize = 0;
     let mut at = start;
     while i < durations.len() {
-        let units = forms::byte_units(durations[i]);
-        if units != 0 {
-            out[at] = units as u8;
+        let duration = Cycles(durations[i]);
+        let units = forms::byte_units(duration);
+        if units.0 != 0 {
+            out[at] = units.0 as u8;
             at = at + 1;
         } else {
-            let form = forms::other_form(version, durations[i]);
+            let form = forms::other_form(version, duration);
             put_form(form, out, at);
             at = at + forms::form_length(form);
         }
@@ -168,12 +174,12 @@ fn put_form(form: Form, out: &mut [u8], at: usize)
     }
 }
 
-fn put_long(count: u32, out: &mut [u8], at: usize)
+fn put_long(count: Units, out: &mut [u8], at: usize)
     requires { ⌜ at + 4 ≤ length (now out) ⌝ }
-    ensures { λ _. ⌜ now (out .exit) ≡ sets (now (out .entry)) at (0 ∷ lowFirst 3 count) ⌝ }
+    ensures { λ _. ⌜ now (out .exit) ≡ sets (now (out .entry)) at (0 ∷ lowFirst 3 (count .0)) ⌝ }
 {
     out[at] = 0;
-    out[at + 1] = lists::low_byte(count, 0);
-    out[at + 2] = lists::low_byte(count, 1);
-    out[at + 3] = lists::low_byte(count, 2);
+    out[at + 1] = lists::low_byte(count.0, 0);
+    out[at + 2] = lists::low_byte(count.0, 1);
+    out[at + 3] = lists::low_byte(count.0, 2);
 }

@@ -7,7 +7,7 @@ use Rattle.pulse.proofs.is_long.Tie as tie
 returns : tie.Need-returns
 returns c =
     let args = c .before .before .before .before .args in
-    rw (leb-not (args .t .short) (args .pulse .0), leb-not (args .t .medium) (args .pulse .0), leb-not (args .t .long) (args .pulse .0)) (class-tests (args .t) (args .pulse .0) .long)
+    rw (leb-not (args .t .short .0) (args .pulse .0), leb-not (args .t .medium .0) (args .pulse .0), leb-not (args .t .long .0) (args .pulse .0)) (class-tests (args .t) (args .pulse .0) .long)
 
 pub is-long-spec : {M : Type 1} → statement M
 is-long-spec = tie.close (tie.spec returns)

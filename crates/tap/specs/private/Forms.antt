@@ -39,7 +39,7 @@ otherForm version d = cond (eqb version 0) (cond (eqb d zeroCycles) (0 ∷ []) [
 
 abbrev pub formBytes : Form → List ℕ
 formBytes (Byte b) = b ∷ []
-formBytes (Long count) = 0 ∷ lowFirst 3 count
+formBytes (Long count) = 0 ∷ lowFirst 3 (count .0)
 formBytes Missing = []
 
 abbrev pub isFound : Option ℕ → Bool

@@ -1,7 +1,9 @@
 -- Reading: the answer of the header, what the data come to, and what the loops keep.
-use Prim.Native.Nat.{ℕ, _+_, _-_, _≤_, _<_}
+use Prim.Native.Nat.{ℕ, _+_, _-_, _*_, _≤_, _<_}
 use mathlib.Core.Path.{_≡_}
+use mathlib.Core.Bool.{cond}
 use mathlib.Core.List.{List}
+use lib.Dec.{eqb}
 use lib.ListN.{length, drop, getD}
 use lib.Seq.{sets}
 use Rattle.refusal.specs.Outcome.{Outcome, accepted, refusedWith, mapped, andThen, puts}
@@ -37,6 +39,28 @@ pub record Cut (bytes : List ℕ) (i : ℕ) : Type 0 where
 pub record CountedTo (bytes : List ℕ) (start place : ℕ) : Type 0 where
   pub order : start ≤ place
   pub cut : place ≡ start → Cut bytes start
+
+-- From place `start`, where a form begins, to place i no zero byte stands in the three bytes after another, so that each begins a long form.
+-- The next form begins at `place`; before it there are, for each zero byte, three durations fewer than bytes.
+pub record Apart (bytes : List ℕ) (start i zeros : ℕ) : Type 0 where
+  pub place : ℕ
+  pub low : i ≤ place
+  pub high : place ≤ i + 3
+  pub few : start + 3 * zeros ≤ place
+  pub counted : (count : ℕ) → Counted bytes start count → Counted bytes place (count + (place - start) - 3 * zeros)
+  -- every zero byte up to place i begins a long form, and where `place` lies after i one of them ends there
+  pub long : (j : ℕ) → start ≤ j → j < i → getD bytes j 0 ≡ 0 → j + 4 ≤ place
+  pub last : i < place → (start + 4 ≤ place) × (getD bytes (place - 4) 0 ≡ 0)
+  -- its other bytes are not 0
+  pub clear : (j : ℕ) → i ≤ j → j < place → getD bytes j 0 ≡ 0 → ⊥
+
+-- where the last form ends that begins before a place, if each zero byte begins a long form
+abbrev pub formEnd : (bytes : List ℕ) (end : ℕ) → ℕ
+formEnd bytes end =
+    cond (eqb (getD bytes (end - 1) 0) 0) (end + 3)
+    (cond (eqb (getD bytes (end - 2) 0) 0) (end + 2)
+    (cond (eqb (getD bytes (end - 3) 0) 0) (end + 1)
+    end))
 
 -- the data from place i on are sound, and there is room for their durations from index k on
 pub record Fillable (bytes : List ℕ) (i : ℕ) (out : List ℕ) (k : ℕ) : Type 0 where

@@ -11,7 +11,11 @@ cast-t5 : tie.Need-cast-t5
 cast-t5 c = search needs
 
 returns : tie.Need-returns
-returns c = let byte-units = c .before in let args = byte-units .before .args in formOf-byUnits (args .duration) (args .version) (byte-units .byte-units .ensures .0) (c .if1 .taken)
+returns c =
+    let test = c .before in
+    let byte-units = test .before .before in
+    let args = byte-units .before .args in
+    formOf-byUnits (args .duration .0) (args .version) (byte-units .byte-units .ensures .0) (test .if1 .taken)
 
 other-form-requires : tie.Need-other-form-requires
 other-form-requires c κs = search needs
@@ -19,9 +23,9 @@ other-form-requires c κs = search needs
 returns-2 : tie.Need-returns-2
 returns-2 c =
     let test = c .before in
-    let byte-units = test .before in
+    let byte-units = test .before .before in
     let args = byte-units .before .args in
-    formOf-byOther (args .duration) (args .version) (byte-units .byte-units .ensures .0) (test .if1 .left) (c .other-form .ensures)
+    formOf-byOther (args .duration .0) (args .version) (byte-units .byte-units .ensures .0) (test .if1 .left) (c .other-form .ensures)
 
 pub form-of-spec : {M : Type 1} → statement M
 form-of-spec =

@@ -1,4 +1,4 @@
--- `tap::reader::count_group` meets its contract: as many durations as bytes where none of them is 0, and else form by form.
+-- `tap::reader::count_group` meets its contract: as many durations as bytes where none of them is 0; else the last group form by form, and any other by its zero bytes.
 use native.Mathlib.Omega.{arith}
 use mathlib.Core.Path.{sym, _∙_}
 use borrow.Author.Needs.{needs}
@@ -36,11 +36,23 @@ returns c =
     let end = group-end .group-end .ensures in
     (count-run (now (start .args .bytes)) (start .pre .1) (group-end .group-end .result) (omega arith) (end .1) (sym (no-zeros .no-zeros .ensures) ∙ c .if1 .taken), record { order = omega arith; cut = λ q. absurd (omega arith) })
 
+sub-if2 : tie.Need-sub-if2
+sub-if2 c = search needs
+
 count-each-requires : tie.Need-count-each-requires
 count-each-requires c κs = search needs
 
 returns-2 : tie.Need-returns-2
 returns-2 c = search needs
+
+count-mixed-requires : tie.Need-count-mixed-requires
+count-mixed-requires c κs =
+    let group-end = c .before .before .before .before in
+    let whole = group-end .group-end .ensures .3 (omega arith) in
+    ((omega arith, omega arith, omega arith), group-end .before .before .pre .1)
+
+returns-3 : tie.Need-returns-3
+returns-3 c = search needs
 
 pub count-group-spec : {M : Type 1} → statement M
 count-group-spec =
@@ -54,5 +66,8 @@ count-group-spec =
     sub-t10
     add-t11
     returns
+    sub-if2
     count-each-requires
-    returns-2)
+    returns-2
+    count-mixed-requires
+    returns-3)

@@ -20,11 +20,11 @@ abbrev μ-loop : tie.MeasureT-loop
 loop-holds : tie.Need-loop-holds Inv-loop μ-loop
 loop-holds c = search needs
 
-mul-byte-units : tie.Need-mul-byte-units Inv-loop μ-loop
-mul-byte-units c = search needs
+mul-t5 : tie.Need-mul-t5 Inv-loop μ-loop
+mul-t5 c = search needs
 
-shared-slice-read-byte-units : tie.Need-shared-slice-read-byte-units Inv-loop μ-loop
-shared-slice-read-byte-units c = search needs
+shared-slice-read-t8 : tie.Need-shared-slice-read-t8 Inv-loop μ-loop
+shared-slice-read-t8 c = search needs
 
 byte-units-requires : tie.Need-byte-units-requires Inv-loop μ-loop
 byte-units-requires c κs = search needs
@@ -37,10 +37,12 @@ loop-less c = search needs
 
 loop-again : tie.Need-loop-again Inv-loop μ-loop
 loop-again c =
-    let loop = c .before .before .before in
+    let byte-units = c .before in
+    let test = byte-units .before .before in
+    let loop = test .before in
     let ds = now (loop .before .before .args .durations) in
-    let within = c .before .before .loop-test .taken in
-    let units = c .byte-units .ensures .0 ∙ sym (getD-mapped byteUnits ds (loop .loop .i) within) in
+    let within = test .loop-test .taken in
+    let units = byte-units .byte-units .ensures .0 ∙ sym (getD-mapped byteUnits ds (loop .loop .i) within) in
     let next = test-next (loop .loop .inv .1) (rw length-map within) in
     (omega arith, rw units next)
 
@@ -54,8 +56,8 @@ all-bytes-spec =
     Inv-loop
     μ-loop
     loop-holds
-    mul-byte-units
-    shared-slice-read-byte-units
+    mul-t5
+    shared-slice-read-t8
     byte-units-requires
     add-i
     loop-less

@@ -18,11 +18,11 @@ abbrev μ-loop : tie.MeasureT-loop
 loop-holds : tie.Need-loop-holds Inv-loop μ-loop
 loop-holds c = let args = c .before .args in search-begun (args .version) (now (args .durations)) (c .before .pre)
 
-mul-form-of : tie.Need-mul-form-of Inv-loop μ-loop
-mul-form-of c = let args = c .before .before .args in let within = search-within (args .version) (now (args .durations)) (c .loop .inv) in omega arith
+mul-t6 : tie.Need-mul-t6 Inv-loop μ-loop
+mul-t6 c = let args = c .before .before .args in let within = search-within (args .version) (now (args .durations)) (c .loop .inv) in omega arith
 
-shared-slice-read-form-of : tie.Need-shared-slice-read-form-of Inv-loop μ-loop
-shared-slice-read-form-of c = let loop = c .before in let args = loop .before .before .args in search-within (args .version) (now (args .durations)) (loop .loop .inv)
+shared-slice-read-t8 : tie.Need-shared-slice-read-t8 Inv-loop μ-loop
+shared-slice-read-t8 c = let loop = c .before in let args = loop .before .before .args in search-within (args .version) (now (args .durations)) (loop .loop .inv)
 
 form-of-requires : tie.Need-form-of-requires Inv-loop μ-loop
 form-of-requires c κs = search needs
@@ -59,8 +59,8 @@ first-without-spec =
     Inv-loop
     μ-loop
     loop-holds
-    mul-form-of
-    shared-slice-read-form-of
+    mul-t6
+    shared-slice-read-t8
     form-of-requires
     form-length-requires
     add-i

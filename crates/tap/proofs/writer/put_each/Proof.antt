@@ -20,11 +20,11 @@ abbrev μ-loop : tie.MeasureT-loop
 loop-holds : tie.Need-loop-holds Inv-loop μ-loop
 loop-holds c = search needs
 
-mul-byte-units : tie.Need-mul-byte-units Inv-loop μ-loop
-mul-byte-units c = search needs
+mul-t10 : tie.Need-mul-t10 Inv-loop μ-loop
+mul-t10 c = search needs
 
-shared-slice-read-byte-units : tie.Need-shared-slice-read-byte-units Inv-loop μ-loop
-shared-slice-read-byte-units c = search needs
+shared-slice-read-t13 : tie.Need-shared-slice-read-t13 Inv-loop μ-loop
+shared-slice-read-t13 c = search needs
 
 byte-units-requires : tie.Need-byte-units-requires Inv-loop μ-loop
 byte-units-requires c κs = search needs
@@ -34,22 +34,17 @@ cast-out c = search needs
 
 slice-write-out : tie.Need-slice-write-out Inv-loop μ-loop
 slice-write-out c =
-    let byte-units = c .before in
+    let test = c .before in
+    let byte-units = test .before .before in
     let loop = byte-units .before .before .before in
     let start = loop .before .before .before in
     let args = start .args in
-    let form = formOf-byUnits (getD (now (args .durations)) (loop .loop .i) 0) (args .version) (byte-units .byte-units .ensures .0) (c .if1 .taken) in
+    let form = formOf-byUnits (getD (now (args .durations)) (loop .loop .i) 0) (args .version) (byte-units .byte-units .ensures .0) (test .if1 .taken) in
     let room = dataPut-formRoom (args .version) (now (args .durations)) (now (args .out)) (args .start) (loop .loop .inv) (byte-units .before .before .loop-test .taken) form (start .pre) in
     omega arith
 
 add-at : tie.Need-add-at Inv-loop μ-loop
 add-at c = search needs
-
-mul-other-form : tie.Need-mul-other-form Inv-loop μ-loop
-mul-other-form c = search needs
-
-shared-slice-read-other-form : tie.Need-shared-slice-read-other-form Inv-loop μ-loop
-shared-slice-read-other-form c = search needs
 
 other-form-requires : tie.Need-other-form-requires Inv-loop μ-loop
 other-form-requires c κs = search needs
@@ -57,8 +52,8 @@ other-form-requires c κs = search needs
 put-form-requires : tie.Need-put-form-requires Inv-loop μ-loop
 put-form-requires c κs =
     let other-form = c .before in
-    let test = other-form .before .before in
-    let byte-units = test .before in
+    let test = other-form .before in
+    let byte-units = test .before .before in
     let loop = byte-units .before .before .before in
     let start = loop .before .before .before in
     let args = start .args in
@@ -71,8 +66,8 @@ form-length-requires c κs = search needs
 add-at-2 : tie.Need-add-at-2 Inv-loop μ-loop
 add-at-2 c =
     let other-form = c .before .before .before .before .before in
-    let test = other-form .before .before in
-    let byte-units = test .before in
+    let test = other-form .before in
+    let byte-units = test .before .before in
     let loop = byte-units .before .before .before in
     let start = loop .before .before .before in
     let args = start .args in
@@ -88,18 +83,18 @@ loop-less c = search needs
 
 loop-again : tie.Need-loop-again Inv-loop μ-loop
 loop-again c =
-    let byte-units = c .before in
+    let byte-units = c .before .before in
     let test = byte-units .before .before in
     let loop = test .before in
     let args = loop .before .before .before .args in
     let duration = getD (now (args .durations)) (loop .loop .i) 0 in
     let units = byte-units .byte-units .ensures .0 in
     ⊎-elim
-    (λ w. dataPut-form (args .version) (now (args .durations)) (now (args .out)) (args .start) (loop .loop .inv) (test .loop-test .taken) (formOf-byUnits duration (args .version) units (w .0 .taken)) (w .1) (w .2))
+    (λ w. dataPut-form (args .version) (now (args .durations)) (now (args .out)) (args .start) (loop .loop .inv) (test .loop-test .taken) (formOf-byUnits duration (args .version) units (w .0 .taken)) (w .2) (w .3))
     (λ w.
-    let form = formOf-byOther duration (args .version) units (w .0 .left) (w .2 .ensures) in
-    dataPut-form (args .version) (now (args .durations)) (now (args .out)) (args .start) (loop .loop .inv) (test .loop-test .taken) form (w .8 ∙ w .4 .ensures)
-    (w .9 ∙ ap (λ m. loop .loop .at + m) (w .7 .ensures)))
+    let form = formOf-byOther duration (args .version) units (w .0 .left) (w .1 .ensures) in
+    dataPut-form (args .version) (now (args .durations)) (now (args .out)) (args .start) (loop .loop .inv) (test .loop-test .taken) form (w .7 ∙ w .3 .ensures)
+    (w .8 ∙ ap (λ m. loop .loop .at + m) (w .6 .ensures)))
     (c .if1 .came)
 
 same-length : tie.Need-same-length Inv-loop μ-loop
@@ -120,14 +115,12 @@ put-each-spec =
     Inv-loop
     μ-loop
     loop-holds
-    mul-byte-units
-    shared-slice-read-byte-units
+    mul-t10
+    shared-slice-read-t13
     byte-units-requires
     cast-out
     slice-write-out
     add-at
-    mul-other-form
-    shared-slice-read-other-form
     other-form-requires
     put-form-requires
     form-length-requires

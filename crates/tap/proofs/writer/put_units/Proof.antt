@@ -20,11 +20,11 @@ abbrev μ-loop : tie.MeasureT-loop
 loop-holds : tie.Need-loop-holds Inv-loop μ-loop
 loop-holds c = let args = c .before .before .args in (omega arith, copy-begun (now (args .out)) (args .at) (map byteUnits (now (args .durations))))
 
-mul-byte-units : tie.Need-mul-byte-units Inv-loop μ-loop
-mul-byte-units c = search needs
+mul-t6 : tie.Need-mul-t6 Inv-loop μ-loop
+mul-t6 c = search needs
 
-shared-slice-read-byte-units : tie.Need-shared-slice-read-byte-units Inv-loop μ-loop
-shared-slice-read-byte-units c = search needs
+shared-slice-read-t9 : tie.Need-shared-slice-read-t9 Inv-loop μ-loop
+shared-slice-read-t9 c = search needs
 
 byte-units-requires : tie.Need-byte-units-requires Inv-loop μ-loop
 byte-units-requires c κs = search needs
@@ -46,10 +46,12 @@ loop-less c = search needs
 
 loop-again : tie.Need-loop-again Inv-loop μ-loop
 loop-again c =
-    let loop = c .before .before .before in
+    let byte-units = c .before in
+    let test = byte-units .before .before in
+    let loop = test .before in
     let args = loop .before .before .before .args in
-    let within = c .before .before .loop-test .taken in
-    (omega arith, copy-mapped-next byteUnits (now (args .durations)) (now (args .out)) (args .at) (loop .loop .inv .1) within (c .byte-units .ensures .0))
+    let within = test .loop-test .taken in
+    (omega arith, copy-mapped-next byteUnits (now (args .durations)) (now (args .out)) (args .at) (loop .loop .inv .1) within (byte-units .byte-units .ensures .0))
 
 same-length : tie.Need-same-length Inv-loop μ-loop
 same-length c = search needs
@@ -67,8 +69,8 @@ put-units-spec =
     Inv-loop
     μ-loop
     loop-holds
-    mul-byte-units
-    shared-slice-read-byte-units
+    mul-t6
+    shared-slice-read-t9
     byte-units-requires
     cast-out
     add-out

@@ -19,11 +19,11 @@ abbrev μ-loop : tie.MeasureT-loop
 loop-holds : tie.Need-loop-holds Inv-loop μ-loop
 loop-holds c = let args = c .before .args in measure-begun (args .version) (now (args .durations))
 
-mul-form-of : tie.Need-mul-form-of Inv-loop μ-loop
-mul-form-of c = search needs
+mul-t8 : tie.Need-mul-t8 Inv-loop μ-loop
+mul-t8 c = search needs
 
-shared-slice-read-form-of : tie.Need-shared-slice-read-form-of Inv-loop μ-loop
-shared-slice-read-form-of c = search needs
+shared-slice-read-t11 : tie.Need-shared-slice-read-t11 Inv-loop μ-loop
+shared-slice-read-t11 c = search needs
 
 form-of-requires : tie.Need-form-of-requires Inv-loop μ-loop
 form-of-requires c κs = search needs
@@ -71,8 +71,8 @@ sum-widths-spec =
     Inv-loop
     μ-loop
     loop-holds
-    mul-form-of
-    shared-slice-read-form-of
+    mul-t8
+    shared-slice-read-t11
     form-of-requires
     form-length-requires
     cast-width
