@@ -1,4 +1,4 @@
--- Laws of blocks as written: how many pulses and bytes there are, and where they stand.
+-- Laws of blocks as written: how many pulses and bytes there are, where they stand, and that no pulse is noise.
 use Prim.Native.Nat.{ℕ, zero, suc, _+_, _-_, _*_, _≤_, _<_}
 use native.Mathlib.Nat.{zero-add}
 use native.Mathlib.Decide.{decLt}
@@ -21,10 +21,11 @@ use Rattle.refusal.specs.Refusal.{refusalAt}
 use Rattle.refusal.specs.Outcome.{accepted, refusedWith}
 use Rattle.refusal.proofs.OutcomeLaws.{cond-accepted, ifRoom-room}
 use Rattle.pulse.specs.declared.Class.{Class}
-use Rattle.pulse.specs.declared.Class.the-variants.{Short}
-use Rattle.pulse.specs.Pulse.{writtenAs}
+use Rattle.pulse.specs.declared.Class.the-variants.{Short, Long}
+use Rattle.pulse.specs.Pulse.{same, writtenAs, NoNoise}
+use Rattle.pulse.proofs.PulseLaws.{noNoise-cons, noNoise-append, noNoise-replicate}
 use Rattle.byte.specs.Byte.{byteClasses, bytesClasses, twenty}
-use Rattle.byte.proofs.CodingLaws.{length-byte, length-bytes}
+use Rattle.byte.proofs.CodingLaws.{length-byte, length-bytes, bytes-noNoise}
 use Rattle.start.specs.Copies.{copyPulses, copyTwo, endOf}
 use Rattle.block.specs.Block.{xorFrom, checksum, firstByte, countdown, copyBytes, copyClasses, trailer, blockClasses, blockPulses, wrongSize, wrongLeader, measureBlock, writeBlock, blockLength}
 use Rattle.block.specs.Damage.{oneAt, twoAt}
@@ -158,6 +159,24 @@ module _ (k : ℕ) (payload : List ℕ) where
       ∙ part-past (copyClasses 0 payload) (trailer ++ fromTwo) m (61 + (m + 0)) 61 (length-copy 0 payload)
       ∙ part-past trailer fromTwo 61 (m + 0) 61 refl
       ∙ part-past (copyClasses 1 payload) trailer m 0 61 (length-copy 1 payload))
+
+-- ---- No pulse is noise
+
+trailer-noNoise : NoNoise trailer
+unfolding trailer same
+trailer-noNoise = noNoise-cons Long (replicate 60 Short) refl (noNoise-replicate 60 Short refl)
+
+copy-noNoise : (copy : ℕ) (payload : List ℕ) → NoNoise (copyClasses copy payload)
+unfolding copyClasses
+copy-noNoise copy payload = bytes-noNoise (copyBytes copy payload)
+
+pub block-noNoise : (k : ℕ) (payload : List ℕ) → NoNoise (blockClasses k payload)
+unfolding blockClasses same
+block-noNoise k payload =
+    let two = noNoise-append (copyClasses 1 payload) trailer (copy-noNoise 1 payload) trailer-noNoise in
+    let after = noNoise-append trailer (fromTwo k payload) trailer-noNoise two in
+    noNoise-append (replicate k Short) (fromOne k payload) (noNoise-replicate k Short refl)
+    (noNoise-append (copyClasses 0 payload) (trailer ++ fromTwo k payload) (copy-noNoise 0 payload) after)
 
 -- ---- What the writer takes
 

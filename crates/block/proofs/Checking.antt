@@ -4,7 +4,6 @@ use native.Mathlib.Nat.{zero-add}
 use native.Mathlib.Numerals.{add-one}
 use native.Mathlib.Omega.{arith}
 use mathlib.Core.Path.{_≡_, refl, sym, ap, ap₂, _∙_}
-use mathlib.Core.Logic.{_⊎_, inl, inr}
 use mathlib.Core.Bool.{Bool, true, false, cond}
 use mathlib.Core.List.{List, [], _∷_, _++_}
 use mathlib.Core.Option.{none}
@@ -12,9 +11,11 @@ use borrow.Author.Count.{below-more}
 use borrow.Author.Tests.{eq-eqb, ne-eqb}
 use lib.Bits.{bitXor, and-le-l, and-le-r, xor-add-and, xor-self}
 use lib.Dec.{eqb}
-use lib.ListN.{length}
+use lib.ListN.{length, getD}
+use lib.Seq.{sets}
 use Rattle.lists.specs.Places.{firstFrom, tabulate}
-use Rattle.lists.proofs.PlaceLaws.{none-first, tabulate-snoc, tabulate-same}
+use Rattle.lists.proofs.PlaceLaws.{none-first, tabulate-snoc, tabulate-same, length-tabulate}
+use Rattle.lists.proofs.BufferLaws.{sets-over, getD-table}
 use Rattle.lists.proofs.LoopLaws.{firstLeft, first-begun, first-passed, first-here, first-over, tableLeft, table-begun, table-next, table-over}
 use Rattle.pulse.specs.declared.Thresholds.{Thresholds}
 use Rattle.pulse.specs.declared.Class.{Class}
@@ -27,8 +28,8 @@ use Rattle.block.specs.declared.rules.Check.the-variants.{Sound, LostAt,
 use Rattle.block.specs.Block.{xorFrom, checksum}
 use Rattle.block.specs.Reading.{Place, FromOne, FromTwo, Lost, placeOf, noValue, placeValue, placeAt, isLost, valueAt, valuesAt, sumHolds}
 use Rattle.block.specs.private.Values.{bitsAt}
-use Rattle.block.specs.private.Flags.{flagAt, raised}
-use Rattle.block.specs.private.Checks.{checkOf, readAs, notFromOne, flagged, NoneRaised, Flags, Checked, soundAt, pickedAt}
+use Rattle.block.specs.private.Flags.{flagAt, raised, AllRaised}
+use Rattle.block.specs.private.Checks.{checkOf, readAs, notFromOne, flagged, NoneRaised, Flags, Checked, soundAt, repairedAt, pickedAt}
 use Rattle.block.proofs.ValueLaws.{good-bits}
 use Rattle.block.proofs.FlagLaws.{length-raised, raised-same, raised-other}
 
@@ -62,43 +63,21 @@ length-flag false row i = refl
 
 -- ---- One place: copy one's byte and, where that is bad, copy two's
 
-module _ (cs : List Class) (one two i : ℕ) (row₀ : List ℕ) where
-  abbrev at : ℕ
-  at = 20 * (9 + i)
+module _ (cs : List Class) (one two i : ℕ) (row : List ℕ) where
+  abbrev Placed : (r : ByteRead) (row′ : List ℕ) → Type 0
+  Placed r row′ = (r ≡ readAs (placeAt cs one two i)) × (row′ ≡ flagged cs one two i row)
 
-  -- the byte to be read is copy one's; or it is copy two's, copy one's is bad and the flag is raised
-  abbrev pub AtCopy : (row : List ℕ) (from : ℕ) → Type 0
-  AtCopy row from = ((from ≡ one + at) × (row ≡ row₀)) ⊎ ((from ≡ two + at) × ((byteAt cs (one + at) ≡ Bad) × (row ≡ raised row₀ i)))
+  pub place-one : {v : ℕ} → byteAt cs (one + 20 * (9 + i)) ≡ Good v → Placed (Good v) row
+  unfolding placeAt
+  place-one e = (rw e, rw e)
 
-  abbrev Placed : (r : ByteRead) (row : List ℕ) → Type 0
-  Placed r row = (r ≡ readAs (placeAt cs one two i)) × (row ≡ flagged cs one two i row₀)
-
-  module _ {row : List ℕ} {from : ℕ} (u : AtCopy row from) where
-    pub atCopy-long : length row ≡ length row₀
-    atCopy-long = elim u [
-      | inl h ↦ ap length (h .1)
-      | inr h ↦ ap length (h .1 .1) ∙ length-raised row₀ i
-    ]
-
-    pub atCopy-good : {v : ℕ} → byteAt cs from ≡ Good v → Placed (Good v) row
-    unfolding placeAt
-    atCopy-good e = elim u [
-      | inl h ↦ (let g = ap (byteAt cs) (sym (h .0)) ∙ e in (rw g, rw g (h .1)))
-      | inr h ↦ (let g = ap (byteAt cs) (sym (h .0)) ∙ e in (rw (h .1 .0, g), rw (h .1 .0, g) (h .1 .1)))
-    ]
-
-    pub atCopy-lost : one < two → from ≡ two + at → byteAt cs from ≡ Bad → Placed Bad row
-    unfolding placeAt
-    atCopy-lost apart last e = elim u [
-      | inl h ↦ absurd (let q = h .0 in omega arith)
-      | inr h ↦ (let g = ap (byteAt cs) (sym (h .0)) ∙ e in (rw (h .1 .0, g), rw (h .1 .0, g) (h .1 .1)))
-    ]
-
-    pub atCopy-next : {row′ : List ℕ} → (from ≡ two + at → ⊥) → byteAt cs from ≡ Bad → row′ ≡ raised row i → AtCopy row′ (two + at)
-    atCopy-next first e f = elim u [
-      | inl h ↦ inr (refl, (ap (byteAt cs) (sym (h .0)) ∙ e, f ∙ ap (λ r. raised r i) (h .1)))
-      | inr h ↦ absurd (first (h .0))
-    ]
+  pub place-two : {r : ByteRead} → byteAt cs (one + 20 * (9 + i)) ≡ Bad → r ≡ byteAt cs (two + 20 * (9 + i)) → Placed r (raised row i)
+  unfolding placeAt
+  place-two {r} e f = by r (sym f)
+    where
+      by : (r : ByteRead) → byteAt cs (two + 20 * (9 + i)) ≡ r → Placed r (raised row i)
+      by (Good v) g = (rw (e, g), rw (e, g))
+      by Bad g = (rw (e, g), rw (e, g))
 
 -- what a place was read as tells whether it is lost, and its value
 read-lost : (p : Place) → readAs p ≡ Bad → noValue p ≡ true
@@ -209,7 +188,26 @@ module _ (t : Thresholds) (strip : List ℕ) (one two n : ℕ) where
       tabulate-same (pickedAt t strip one two row) (valueAt cs one two) n 0
       (λ i a b. rw (flags i (omega arith)) (picked (20 * (9 + i)) _ _ refl refl (none-first (isLost cs one two) (n + 1) 0 found i (omega arith) (omega arith))))
 
-  -- where no flag is raised, they are those of copy one
-  pub sound-picked : (row : List ℕ) → NoneRaised row → tabulate (soundAt t strip (one + 180)) n 0 ≡ tabulate (pickedAt t strip one two row) n 0
-  sound-picked row down =
-      tabulate-same (soundAt t strip (one + 180)) (pickedAt t strip one two row) n 0 (λ i a b. rw (down i) (ap (bitsAt t strip) (omega arith)))
+  -- where every flag is raised, what it picks is copy two's
+  pub picked-two : (row : List ℕ) → AllRaised row n → tabulate (soundAt t strip (two + 180)) n 0 ≡ tabulate (pickedAt t strip one two row) n 0
+  picked-two row up =
+      tabulate-same (soundAt t strip (two + 180)) (pickedAt t strip one two row) n 0 (λ i a b. rw (up i (omega arith)) (ap (bitsAt t strip) (omega arith)))
+
+  -- where copy one's bits were put first, what is repaired then is what the row picks
+  pub picked-repaired : (row out : List ℕ) → n ≤ length out → (let one′ = sets out 0 (tabulate (soundAt t strip (one + 180)) n 0) in
+      sets one′ 0 (tabulate (repairedAt t strip (two + 180) row one′) n 0) ≡ sets out 0 (tabulate (pickedAt t strip one two row) n 0))
+  picked-repaired row out room =
+      sets-over out (tabulate sound n 0) (tabulate (repairedAt t strip (two + 180) row buffer) n 0)
+      (length-tabulate sound n 0 ∙ sym (length-tabulate (repairedAt t strip (two + 180) row buffer) n 0))
+      (omega (arith, length-tabulate sound n 0))
+      ∙ ap (sets out 0) (tabulate-same (repairedAt t strip (two + 180) row buffer) (pickedAt t strip one two row) n 0 (λ i a b. here (flagAt row i) i (omega arith)))
+    where
+      sound : ℕ → ℕ
+      sound = soundAt t strip (one + 180)
+
+      buffer : List ℕ
+      buffer = sets out 0 (tabulate sound n 0)
+
+      here : (up : Bool) (i : ℕ) → i < n → cond up (soundAt t strip (two + 180) i) (getD buffer i 0) ≡ bitsAt t strip (cond up two one + 20 * (9 + i))
+      here true i h = ap (bitsAt t strip) (omega arith)
+      here false i h = getD-table sound n out i h room ∙ ap (bitsAt t strip) (omega arith)

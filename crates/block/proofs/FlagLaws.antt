@@ -7,11 +7,12 @@ use mathlib.Core.Path.{_≡_, refl, ap, _∙_}
 use mathlib.Core.Bool.{true, false}
 use mathlib.Core.List.{List}
 use borrow.Author.Tests.{eq-eqb}
-use lib.Bits.{bitOr, or-shr, or-mod, or-zero-r, or-add-and, and-le-l, and-le-r}
+use lib.Bits.{bitOr, or-shr, or-mod, or-zero-r}
 use lib.Dec.{eqb, lit<}
 use lib.ListN.{length, getD, set, replicate, length-set, List·getD-eq-default}
 use lib.Pow.{pow-pos, pow-add, pow-lt, shl-shr, shl-exact}
 use lib.Seq.{set-out, getD-set-same, getD-set-other}
+use Rattle.lists.proofs.Table.{every-at}
 use Rattle.block.specs.private.Flags.{flagAt, raised}
 
 -- ---- The bits of a number
@@ -95,15 +96,12 @@ pub flagAt-past : (row : List ℕ) (i : ℕ) → length row ≤ i / 8 → flagAt
 unfolding flagAt
 flagAt-past row i h = rw (List·getD-eq-default row 0 h, zero-div (2 ^ (i % 8)))
 
--- ---- No flag at all
-
-pub or-none : (a b : ℕ) → bitOr a b ≡ 0 → (a ≡ 0) × (b ≡ 0)
-or-none a b e = (omega (arith, or-add-and a b, and-le-l a b, and-le-r a b), omega (arith, or-add-and a b, and-le-l a b, and-le-r a b))
-
--- bytes of 0 have no flag
-pub flagAt-zeroBytes : (row : List ℕ) → ((j : ℕ) → j < length row → getD row j 0 ≡ 0) → (i : ℕ) → flagAt row i ≡ false
+-- a byte of 0 has no flag raised
+pub flagAt-zero : (row : List ℕ) (i : ℕ) → getD row (i / 8) 0 ≡ 0 → flagAt row i ≡ false
 unfolding flagAt
-flagAt-zeroBytes row h i = elim (decLt (i / 8) (length row)) [
-  | yes l ↦ rw (h (i / 8) l, zero-div (2 ^ (i % 8)))
-  | no l ↦ flagAt-past row i (omega arith)
-]
+flagAt-zero row i e = rw (e, zero-div (2 ^ (i % 8)))
+
+-- one of ones has all
+pub flagAt-ones : (row : List ℕ) (i : ℕ) → getD row (i / 8) 0 ≡ 255 → flagAt row i ≡ true
+unfolding flagAt
+flagAt-ones row i e = rw e (every-at (λ k. eqb (255 / 2 ^ k % 2) 1) 8 refl (i % 8) (omega arith))

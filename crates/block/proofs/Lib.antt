@@ -2,6 +2,7 @@ mod Countdowns
 mod FlagLaws
 mod ValueLaws
 mod Writing
+mod Repairing
 mod Checking
 mod Answers
 pub mod BlockLaws

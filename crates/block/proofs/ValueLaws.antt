@@ -37,11 +37,11 @@ lead-tests false false true n b e = rw e
 lead-tests false false false true b e = absurd (let z : _≡_ {A = ℕ} 0 1 = cc in omega arith)
 lead-tests false false false false b e = absurd (let z : _≡_ {A = ℕ} 0 1 = cc in omega arith)
 
-lead-sound : (t : Thresholds) (x : ℕ) (b : Class) (i : ℕ) → 1 ≤ i → isSound i (pairOf (classOf t x) b) ≡ true → bitOf (pairOf (classOf t x) b) ≡ cond (leb (t .medium) x) 1 0
+lead-sound : (t : Thresholds) (x : ℕ) (b : Class) (i : ℕ) → 1 ≤ i → isSound i (pairOf (classOf t x) b) ≡ true → bitOf (pairOf (classOf t x) b) ≡ cond (leb (t .medium .0) x) 1 0
 unfolding classOf
 lead-sound t x b i h e =
-    rw (leb-not (t .medium) x)
-    (lead-tests (ltb x (t .short)) (ltb x (t .medium)) (ltb x (t .long)) (ltb x (t .noise)) b (rw (ne-eqb i 0 (λ q. omega arith)) at e))
+    rw (leb-not (t .medium .0) x)
+    (lead-tests (ltb x (t .short .0)) (ltb x (t .medium .0)) (ltb x (t .long .0)) (ltb x (t .noise .0)) b (rw (ne-eqb i 0 (λ q. omega arith)) at e))
 
 module _ (t : Thresholds) (strip : List ℕ) (at : ℕ) where
   lead-bit : (i : ℕ) → 1 ≤ i → i < 10 → at + 20 ≤ length strip → isSound i (nthPair (twenty (classes t strip) at) i) ≡ true
@@ -71,11 +71,11 @@ module _ (t : Thresholds) (strip : List ℕ) (at : ℕ) where
   bits-begun = refl
 
   pub bits-next : {value i : ℕ} → i < 8 → BitsRead value i
-      → BitsRead (bitOr value (boolByte (leb (t .medium) (getD strip (at + 2 * (1 + i)) 0)) * 2 ^ i % 2 ^ 8)) (i + 1)
+      → BitsRead (bitOr value (boolByte (leb (t .medium .0) (getD strip (at + 2 * (1 + i)) 0)) * 2 ^ i % 2 ^ 8)) (i + 1)
   bits-next {value} {i} h e =
       let f = leadBit t strip at in
-      let small : (j : ℕ) → f j < 2 = λ j. flag-lt (leb (t .medium) (getD strip (at + 2 * j) 0)) in
-      rw (add-one, flag-number (leb (t .medium) (getD strip (at + 2 * (1 + i)) 0)), shl-exact {a = f (1 + i)} 1 i 8 (small (1 + i)) (omega arith), e) (value-or f small i 1)
+      let small : (j : ℕ) → f j < 2 = λ j. flag-lt (leb (t .medium .0) (getD strip (at + 2 * j) 0)) in
+      rw (add-one, flag-number (leb (t .medium .0) (getD strip (at + 2 * (1 + i)) 0)), shl-exact {a = f (1 + i)} 1 i 8 (small (1 + i)) (omega arith), e) (value-or f small i 1)
 
   pub bits-done : {value i : ℕ} → i ≡ 8 → BitsRead value i → value ≡ bitsAt t strip at
   unfolding bitsAt

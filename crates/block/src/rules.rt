@@ -17,6 +17,7 @@ ghost use lib.ListN.{length};
 ghost use Rattle.lists.specs.Places.{firstFrom};
 ghost use Rattle.refusal.specs.Refusal.{refusalAt};
 ghost use Rattle.pulse.specs.Pulse.{classes};
+ghost use Rattle.byte.specs.Byte.{readFrame, isGood};
 ghost use Rattle.start.specs.Start.{foundAt};
 ghost use Rattle.start.specs.Copies.{copyPulses, copyTwo, endOf};
 ghost use Rattle.block.specs.Reading.{isCounted, isMiscounted, placeAt, readCopies, readAt, BlockPromise};
@@ -84,10 +85,28 @@ fn is_counted(t: Thresholds, strip: &[u32], one: usize, two: usize, i: usize) ->
     ensures { λ r. ⌜ r ≡ isCounted (classes t (now (strip .entry))) one two i ⌝ }
 {
     let at = byte::BYTE_PULSES * i;
-    if byte::matches(t, strip, one + at, COUNTDOWNS[0][i]) {
+    if holds(
+        t,
+        &strip[one + at..one + at + byte::BYTE_PULSES],
+        COUNTDOWNS[0][i],
+    ) {
         return true;
     }
-    byte::matches(t, strip, two + at, COUNTDOWNS[1][i])
+    holds(
+        t,
+        &strip[two + at..two + at + byte::BYTE_PULSES],
+        COUNTDOWNS[1][i],
+    )
+}
+
+// Whether a frame is a good byte of this value.
+fn holds(t: Thresholds, frame: &[u32], value: u8) -> bool
+    ensures { λ r. ⌜ r ≡ isGood value (readFrame (classes t (now (frame .entry)))) ⌝ }
+{
+    let ByteRead::Good(read) = byte::read_frame(t, frame) else {
+        return false;
+    };
+    read == value
 }
 
 fn first_miscounted(t: Thresholds, strip: &[u32], one: usize, two: usize) -> Found
@@ -104,8 +123,7 @@ fn first_miscounted(t: Thresholds, strip: &[u32], one: usize, two: usize) -> Fou
     Found::Nothing
 }
 
-// Rule 4 at place i after the countdown: copy one's byte where it is good, else copy two's, and then the place's flag is raised. There is
-// one call of `byte_at`, for two turns at the most, so that the compiler inlines it.
+// Rule 4 at place i after the countdown: copy one's byte where it is good, else copy two's, and then the place's flag is raised.
 fn read_place(
     t: Thresholds,
     strip: &[u32],
@@ -114,22 +132,16 @@ fn read_place(
     i: usize,
     row: &mut [u8],
 ) -> ByteRead
-    requires { ⌜ (one < two) × (two + 20 * (9 + i) ≤ length (now strip)) ⌝ }
+    requires { ⌜ (one ≤ two) × (two + 20 * (10 + i) ≤ length (now strip)) ⌝ }
     ensures { λ r. ⌜ (r ≡ readAs (placeAt (classes t (now (strip .entry))) one two i)) × (now (row .exit) ≡ flagged (classes t (now (strip .entry))) one two i (now (row .entry))) ⌝ }
 {
     let at = byte::BYTE_PULSES * (COUNTDOWN_BYTES + i);
-    let mut from = one + at;
-    'copies: loop {
-        let ByteRead::Good(value) = byte::byte_at(t, strip, from) else {
-            if from == two + at {
-                return ByteRead::Bad;
-            }
-            flags::raise_flag(row, i);
-            from = two + at;
-            continue 'copies;
-        };
-        return ByteRead::Good(value);
-    }
+    let ByteRead::Good(value) = byte::read_frame(t, &strip[one + at..one + at + byte::BYTE_PULSES])
+    else {
+        flags::raise_flag(row, i);
+        return byte::read_frame(t, &strip[two + at..two + at + byte::BYTE_PULSES]);
+    };
+    ByteRead::Good(value)
 }
 
 // Rules 4 and 5: whether a place is lost, and whether the checksum holds for the repaired values. It does exactly where these and the
@@ -142,7 +154,7 @@ fn check_values(
     n: usize,
     row: &mut [u8],
 ) -> Check
-    requires { ⌜ (one < two) × (two + copyPulses n ≤ length (now strip)) × (n < 8 * length (now row)) × NoneRaised (now row) ⌝ }
+    requires { ⌜ (one ≤ two) × (two + copyPulses n ≤ length (now strip)) × (n < 8 * length (now row)) × NoneRaised (now row) ⌝ }
     ensures { λ r. ⌜ Checked (classes t (now (strip .entry))) one two n r (now (row .exit)) ⌝ }
 {
     let mut sum: u8 = 0;

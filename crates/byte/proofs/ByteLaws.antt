@@ -9,22 +9,24 @@ use mathlib.Core.Logic.{inl, inr}
 use mathlib.Core.Bool.{true, cond, _&&_}
 use mathlib.Core.List.{List, [], _∷_, _++_}
 use mathlib.Core.Option.{Option, none, some}
-use borrow.Author.Tests.{not-true, not-false, eqb-true, ne-eqb}
+use borrow.Author.Tests.{not-true, not-false, eqb-true, eq-eqb, ne-eqb}
 use lib.Count.{ones}
 use lib.Dec.{lit<, lit≤}
-use lib.ListN.{length, take, drop, getD, length-take, length-drop}
+use lib.ListN.{length, take, drop, getD, length-take, length-drop, length-map}
 use lib.Seq.{drop-cons, take-take, getD-take, getD-drop}
-use Rattle.lists.specs.Places.{firstFrom, tabulate}
+use Rattle.lists.specs.Places.{firstFrom, tabulate, part}
 use Rattle.lists.proofs.BoolLaws.{and-true, or-true, cond-first}
 use Rattle.lists.proofs.PlaceLaws.{none-first, tabulate-snoc}
+use Rattle.lists.proofs.PartLaws.{part-map}
 use Rattle.lists.proofs.Table.{every-at}
+use Rattle.pulse.specs.declared.Thresholds.{Thresholds}
 use Rattle.pulse.specs.declared.Class.{Class}
 use Rattle.pulse.specs.declared.Class.the-variants.{Short, Medium, Long, Noise}
-use Rattle.pulse.specs.Pulse.{same}
+use Rattle.pulse.specs.Pulse.{classOf, classes, same}
 use Rattle.pulse.proofs.PulseLaws.{same-eq}
 use Rattle.byte.specs.declared.ByteRead.{ByteRead}
 use Rattle.byte.specs.declared.ByteRead.the-variants.{Good, Bad}
-use Rattle.byte.specs.Byte.{isOdd, bits, parityBit, coded, byteClasses, pairOf, isSound, bitOf, pairAt, nthPair, nthBit, wrongPair, valueOf, checked, byteOf, twenty, byteAt, isGood, isBad}
+use Rattle.byte.specs.Byte.{isOdd, bits, parityBit, coded, byteClasses, pairOf, isSound, bitOf, pairAt, nthPair, nthBit, wrongPair, valueOf, checked, byteOf, readFrame, twenty, byteAt, isGood, isBad}
 use Rattle.byte.proofs.PairLaws.{bit-lt, pair-past}
 use Rattle.byte.proofs.CodingLaws.{coded-append, value-lt}
 
@@ -33,6 +35,10 @@ use Rattle.byte.proofs.CodingLaws.{coded-append, value-lt}
 pub isGood-true : (v : ℕ) (r : ByteRead) → isGood v r ≡ true → r ≡ Good v
 isGood-true v (Good w) e = ap Good (eqb-true w v e)
 isGood-true v Bad e = absurd (let z : _≡_ {A = ℕ} 0 1 = cc in omega arith)
+
+pub isBad-true : (r : ByteRead) → isBad r ≡ true → r ≡ Bad
+isBad-true (Good v) e = absurd (let z : _≡_ {A = ℕ} 0 1 = cc in omega arith)
+isBad-true Bad e = refl
 
 pub byteOf-written : (b : ℕ) → b < 256 → byteOf (byteClasses b) ≡ Good b
 unfolding byteOf firstFrom tabulate pairAt pairOf same valueOf byteClasses coded bits parityBit isOdd ones
@@ -179,3 +185,11 @@ module _ (cs : List Class) (p : ℕ) where
     | yes h ↦ h
     | no h ↦ absurd (let b = rw e at (byteAt-fewer (omega arith)) in let z : _≡_ {A = ℕ} 0 1 = cc in omega arith)
   ]
+
+-- the frame from a place of a strip on, cut out of it
+pub readFrame-part : (t : Thresholds) (strip : List ℕ) (at count : ℕ) → count ≡ 20 → at + 20 ≤ length strip
+    → readFrame (classes t (part strip at count)) ≡ byteAt (classes t strip) at
+unfolding readFrame byteAt
+readFrame-part t strip at count e h =
+    let n : length (part strip at 20) ≡ 20 = simp (length-take, length-drop) (omega arith) in
+    rw (e, length-map (part strip at 20) (classOf t), eq-eqb (length (part strip at 20)) 20 n) (ap byteOf (sym (part-map (classOf t) strip at 20)))

@@ -1,4 +1,4 @@
--- Laws of bits as pulses: how many there are, and where they stand.
+-- Laws of bits as pulses: how many there are, where they stand, and that none is noise.
 use Prim.Native.Nat.{ℕ, zero, suc, _+_, _*_, _^_, _<_}
 use native.Mathlib.Nat.{pow-suc, add-comm}
 use native.Mathlib.Omega.{arith}
@@ -9,9 +9,10 @@ use lib.ListN.{length, length-append, length-map}
 use Rattle.lists.specs.Places.{tabulate}
 use Rattle.lists.proofs.PlaceLaws.{tabulate-snoc, length-tabulate}
 use Rattle.pulse.specs.declared.Class.{Class}
-use Rattle.pulse.specs.declared.Class.the-variants.{Short, Medium}
-use Rattle.pulse.specs.Pulse.{writtenAs}
-use Rattle.byte.specs.Byte.{bits, coded, byteClasses, bytePulses, bytesClasses, bytesPulses, valueOf}
+use Rattle.pulse.specs.declared.Class.the-variants.{Short, Medium, Long}
+use Rattle.pulse.specs.Pulse.{same, writtenAs, NoNoise}
+use Rattle.pulse.proofs.PulseLaws.{noNoise-none, noNoise-cons, noNoise-append}
+use Rattle.byte.specs.Byte.{bits, parityBit, coded, byteClasses, bytePulses, bytesClasses, bytesPulses, valueOf}
 
 -- ---- coded
 
@@ -26,6 +27,12 @@ unfolding coded
 length-coded [] = refl
 length-coded (zero ∷ ds) = let r = length-coded ds in omega arith
 length-coded (suc d ∷ ds) = let r = length-coded ds in omega arith
+
+coded-noNoise : (ds : List ℕ) → NoNoise (coded ds)
+unfolding coded same
+coded-noNoise [] = noNoise-none
+coded-noNoise (zero ∷ ds) = noNoise-cons Short (Medium ∷ coded ds) refl (noNoise-cons Medium (coded ds) refl (coded-noNoise ds))
+coded-noNoise (suc d ∷ ds) = noNoise-cons Medium (Short ∷ coded ds) refl (noNoise-cons Short (coded ds) refl (coded-noNoise ds))
 
 -- ---- bits
 
@@ -43,6 +50,12 @@ length-byte b = simp (length-coded, length-append, length-bits)
 pub length-bytePulses : (b : ℕ) → length (bytePulses b) ≡ 20
 length-bytePulses b = length-map (byteClasses b) writtenAs ∙ length-byte b
 
+byte-noNoise : (b : ℕ) → NoNoise (byteClasses b)
+unfolding byteClasses same
+byte-noNoise b =
+    let ds = bits 8 b ++ (parityBit b ∷ []) in
+    noNoise-cons Long (Medium ∷ coded ds) refl (noNoise-cons Medium (coded ds) refl (coded-noNoise ds))
+
 -- ---- bytesClasses
 
 pub length-bytes : (bs : List ℕ) → length (bytesClasses bs) ≡ 20 * length bs
@@ -52,6 +65,11 @@ length-bytes (b ∷ bs) = simp (length-append, length-byte, length-bytes bs) (om
 
 pub length-bytesPulses : (bs : List ℕ) → length (bytesPulses bs) ≡ 20 * length bs
 length-bytesPulses bs = length-map (bytesClasses bs) writtenAs ∙ length-bytes bs
+
+pub bytes-noNoise : (bs : List ℕ) → NoNoise (bytesClasses bs)
+unfolding bytesClasses
+bytes-noNoise [] = noNoise-none
+bytes-noNoise (b ∷ bs) = noNoise-append (byteClasses b) (bytesClasses bs) (byte-noNoise b) (bytes-noNoise bs)
 
 -- ---- valueOf
 

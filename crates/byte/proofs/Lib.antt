@@ -1,9 +1,9 @@
 mod Parity
 pub mod PairLaws
-mod Decoding
 mod NibbleLaws
 pub mod Stores
 pub mod CodingLaws
 pub mod ByteLaws
+mod FrameLaws
 pub mod DamageLaws
-mod Matching
+pub mod Matching

@@ -1,104 +1,132 @@
--- A byte whose value is known: the pulses are that byte exactly where each of the ten pairs is as in it.
+-- Laws of `pairFits`: what stands at a place is the byte with a value exactly where each of the ten pairs is as in that byte.
 use Prim.Native.Nat.{ℕ, zero, suc, _+_, _*_, _/_, _%_, _^_, _≤_, _<_}
+use native.Mathlib.Decide.{ℕ-discrete}
+use native.Mathlib.Nat.{add-assoc}
 use native.Mathlib.Omega.{arith}
 use mathlib.Core.Path.{_≡_, refl, sym, ap, ap₂, _∙_}
-use mathlib.Core.Bool.{Bool, true, false, cond, not, _&&_, _||_}
+use mathlib.Core.Bool.{Bool, true, false, cond, _&&_}
 use mathlib.Core.List.{List}
-use mathlib.Core.Option.{none}
-use borrow.Author.Tests.{eq-eqb, ne-eqb}
+use borrow.Author.Tests.{eq-eqb, ne-eqb, lt-ltb, le-ltb}
 use lib.Count.{ones}
-use lib.Dec.{eqb, lit<, lit≤}
-use lib.ListN.{length, getD}
-use Rattle.lists.specs.Places.{tabulate}
-use Rattle.lists.proofs.PlaceLaws.{first-none, tabulate-same}
+use lib.Dec.{eqb, ltb}
+use lib.ListN.{length, drop, getD, length-drop}
+use lib.Seq.{length-take-le, ext-getD}
+use Rattle.lists.proofs.BoolLaws.{and-true}
+use Rattle.lists.proofs.PartLaws.{getD-part}
 use Rattle.lists.proofs.Table.{every, every-at}
+use Rattle.pulse.specs.declared.Thresholds.{Thresholds}
 use Rattle.pulse.specs.declared.Class.{Class}
 use Rattle.pulse.specs.declared.Class.the-variants.{Short, Medium, Long, Noise}
-use Rattle.pulse.specs.Pulse.{same}
+use Rattle.pulse.specs.Pulse.{classOf, classes, code, same}
+use Rattle.pulse.proofs.PulseLaws.{class-at, same-eq}
 use Rattle.byte.specs.declared.ByteRead.{ByteRead}
 use Rattle.byte.specs.declared.ByteRead.the-variants.{Good, Bad}
-use Rattle.byte.specs.Byte.{isOdd, bits, parityBit, coded, byteClasses, pairOf, bitOf, pairAt, nthPair, nthBit, wrongPair, valueOf, checked, byteOf, twenty, byteAt, isGood}
-use Rattle.byte.specs.private.Decoder.{codeOf, fits}
-use Rattle.byte.proofs.ByteLaws.{byteOf-written, byteAt-good, byteAt-within}
-use Rattle.byte.proofs.PairLaws.{pair-twenty}
+use Rattle.byte.specs.Byte.{isOdd, bits, parityBit, coded, byteClasses, twenty, byteAt, pairFits, isGood}
+use Rattle.byte.specs.private.Frame.{codeOf}
+use Rattle.byte.proofs.CodingLaws.{length-byte}
+use Rattle.byte.proofs.ByteLaws.{byteAt-written, byteAt-good, byteAt-within}
 
--- ---- The byte as written
+-- ---- A pair of the byte as written
 
-fits-written : (v : ℕ) → v < 256 → (i : ℕ) → i < 10 → fits v i (nthPair (byteClasses v) i) ≡ true
-unfolding pairAt pairOf same byteClasses coded bits parityBit isOdd ones codeOf
-fits-written v h = every-at (λ i. fits v i (nthPair (byteClasses v) i)) 10 (every-at (λ w. every (λ i. fits w i (nthPair (byteClasses w) i)) 10) 256 refl v h)
+-- pair i has these classes
+abbrev hasPair : (v i : ℕ) → Class → Class → Bool
+hasPair v i a b = same (getD (byteClasses v) (2 * i) Noise) a && same (getD (byteClasses v) (2 * i + 1) Noise) b
 
--- ---- Pairs that are as in the byte
-
+-- it has those of the bit at place i of the code
 abbrev bitIn : (v i : ℕ) → ℕ
 bitIn v i = codeOf v / 2 ^ i % 2
 
--- a pair that is as it has to be is sound
-choice-sound : (first clear m z o : Bool) → cond first m (cond clear z o) ≡ true → cond first m (z || o) ≡ true
-choice-sound true clear m z o e = e
-choice-sound false true m true o e = refl
-choice-sound false true m false o e = absurd (let n : _≡_ {A = ℕ} 0 1 = cc in omega arith)
-choice-sound false false m true o e = refl
-choice-sound false false m false o e = e
+abbrev hasBit : (v i : ℕ) → Bool
+hasBit v i = cond (eqb (bitIn v i) 0) (hasPair v i Short Medium) (hasPair v i Medium Short)
 
--- a 0 is no 1
-zero-one : (a b : Class) → (same a Short && same b Medium) ≡ true → (same a Medium && same b Short) ≡ false
-unfolding same
-zero-one Short b e = refl
-zero-one Medium b e = absurd (let z : _≡_ {A = ℕ} 0 1 = cc in omega arith)
-zero-one Long b e = absurd (let z : _≡_ {A = ℕ} 0 1 = cc in omega arith)
-zero-one Noise b e = absurd (let z : _≡_ {A = ℕ} 0 1 = cc in omega arith)
+-- every pair after the marker has
+bit-written : (v : ℕ) → v < 256 → (i : ℕ) → i < 9 → hasBit v (suc i) ≡ true
+unfolding same byteClasses coded bits parityBit isOdd ones codeOf
+bit-written v h = every-at (λ i. hasBit v (suc i)) 9 (every-at (λ w. every (λ i. hasBit w (suc i)) 9) 256 refl v h)
 
--- and has that bit
-choice-bit : (a b : Class) (bit : ℕ) → bit < 2 → cond (eqb bit 0) (pairOf a b .zero) (pairOf a b .one) ≡ true → bitOf (pairOf a b) ≡ bit
-unfolding pairOf
-choice-bit a b zero h e = rw (zero-one a b e)
-choice-bit a b (suc zero) h e = rw e
-choice-bit a b (suc (suc bit)) h e = absurd (omega arith)
+-- ---- pairFits, by its cases
 
-module _ (ys : List Class) (v : ℕ) (all : (i : ℕ) → i < 10 → fits v i (nthPair ys i) ≡ true) where
-  all-sound : (i : ℕ) → i < 10 → wrongPair ys i ≡ false
-  all-sound i h =
-      let p = nthPair ys i in
-      ap not (choice-sound (eqb i 0) (eqb (bitIn v i) 0) (p .marker) (p .zero) (p .one) (all i h))
+module _ (v : ℕ) (a b : Class) where
+  pub pairFits-past : (i : ℕ) → 10 ≤ i → false ≡ pairFits v i a b
+  unfolding pairFits
+  pairFits-past i h = rw (le-ltb i 10 h)
 
-  all-bits : (i : ℕ) → 1 ≤ i → i < 10 → nthBit ys i ≡ bitIn v i
-  unfolding pairAt
-  all-bits i l h = choice-bit (getD ys (2 * i) Noise) (getD ys (2 * i + 1) Noise) (bitIn v i) (omega arith) (rw (ne-eqb i 0 (λ q. omega arith)) at (all i h))
+  fits-pair : (i : ℕ) (c d : Class) → i < 10 → hasPair v i c d ≡ true → (same a c && same b d) ≡ pairFits v i a b
+  unfolding pairFits
+  fits-pair i c d h e =
+      let s = and-true (same (getD (byteClasses v) (2 * i) Noise) c) (same (getD (byteClasses v) (2 * i + 1) Noise) d) e in
+      rw (lt-ltb i 10 h, same-eq _ c (s .0), same-eq _ d (s .1))
 
-  all-read : byteOf ys ≡ checked none (valueOf (tabulate (bitIn v) 8 1)) (bitIn v 9)
-  unfolding byteOf
-  all-read =
-      rw (first-none (wrongPair ys) 10 0 (λ i a b. all-sound i (omega arith)))
-      (ap₂ (checked none) (ap valueOf (tabulate-same (nthBit ys) (bitIn v) 8 1 (λ i a b. all-bits i a (omega arith)))) (all-bits 9 (lit≤ tt) (lit< tt)))
+  pub pairFits-marker : (i : ℕ) → i ≡ 0 → (same a Long && same b Medium) ≡ pairFits v i a b
+  unfolding byteClasses same
+  pairFits-marker i e = rw e (fits-pair 0 Long Medium (omega arith) refl)
+
+  module _ (small : v < 256) where
+    pub pairFits-zero : (i : ℕ) → (i ≡ 0 → ⊥) → i < 10 → bitIn v i ≡ 0 → (same a Short && same b Medium) ≡ pairFits v i a b
+    pairFits-zero zero l h e = absurd (l refl)
+    pairFits-zero (suc i) l h e = fits-pair (suc i) Short Medium h (rw (eq-eqb _ 0 e) at (bit-written v small i (omega arith)))
+
+    pub pairFits-one : (i : ℕ) → (i ≡ 0 → ⊥) → i < 10 → (bitIn v i ≡ 0 → ⊥) → (same a Medium && same b Short) ≡ pairFits v i a b
+    pairFits-one zero l h e = absurd (l refl)
+    pairFits-one (suc i) l h e = fits-pair (suc i) Medium Short h (rw (ne-eqb _ 0 e) at (bit-written v small i (omega arith)))
 
 -- ---- On a strip
 
-good-same : (v : ℕ) {r : ByteRead} → r ≡ Good v → true ≡ isGood v r
-good-same v e = rw e (sym (eq-eqb v v refl))
+same-self : (c : Class) → same c c ≡ true
+unfolding same
+same-self c = eq-eqb (code c) (code c) refl
 
-good-other : (v : ℕ) (r : ByteRead) → (r ≡ Good v → ⊥) → false ≡ isGood v r
-good-other v (Good w) h = sym (ne-eqb w v (λ e. h (ap Good e)))
+good-other : (v : ℕ) (r : ByteRead) → (r ≡ Good v → ⊥) → isGood v r ≡ false
+good-other v (Good w) h = ne-eqb w v (λ e. h (ap Good e))
 good-other v Bad h = refl
 
+-- pair i from a place on is as in this byte
+abbrev pub fitsAt : (cs : List Class) (p v i : ℕ) → Bool
+fitsAt cs p v i = pairFits v i (getD cs (p + 2 * i) Noise) (getD cs (p + 2 * i + 1) Noise)
+
+-- two pulses read where they lie
+pub fits-there : (t : Thresholds) (strip : List ℕ) (p v i : ℕ) → p + 2 * i + 1 < length strip
+    → pairFits v i (classOf t (getD strip (p + 2 * i) 0)) (classOf t (getD strip (p + 2 * i + 1) 0)) ≡ fitsAt (classes t strip) p v i
+fits-there t strip p v i h = ap₂ (pairFits v i) (sym (class-at t strip (p + 2 * i) (omega arith))) (sym (class-at t strip (p + 2 * i + 1) h))
+
 module _ (cs : List Class) (p v : ℕ) where
+  abbrev place : ℕ → Class
+  place j = getD cs (p + j) Noise
+
+  abbrev written : ℕ → Class
+  written j = getD (byteClasses v) j Noise
+
+  -- the second pulse of a pair
+  second : (i : ℕ) → getD cs (p + 2 * i + 1) Noise ≡ place (2 * i + 1)
+  second i = ap (λ j. getD cs j Noise) (add-assoc p (2 * i) 1)
+
+  fits-classes : (i : ℕ) → fitsAt cs p v i ≡ true → (place (2 * i) ≡ written (2 * i)) × (place (2 * i + 1) ≡ written (2 * i + 1))
+  unfolding pairFits
+  fits-classes i e =
+      let one = same (place (2 * i)) (written (2 * i)) in
+      let two = same (getD cs (p + 2 * i + 1) Noise) (written (2 * i + 1)) in
+      let s = and-true (ltb i 10 && one) two e in
+      (same-eq _ _ (and-true (ltb i 10) one (s .0) .1), sym (second i) ∙ same-eq _ _ (s .1))
+
   -- all ten pairs are as in the byte
-  pub matches-true : v < 256 → {i : ℕ} → 10 ≤ i → ((j : ℕ) → j < i → fits v j (pairAt cs (p + 2 * j)) ≡ true) → true ≡ isGood v (byteAt cs p)
-  unfolding byteAt
-  matches-true small last all =
-      let ys = twenty cs p in
-      let here : (j : ℕ) → j < 10 → fits v j (nthPair ys j) ≡ true = λ j h. ap (fits v j) (pair-twenty cs p j h) ∙ all j (omega arith) in
-      good-same v (all-read ys v here ∙ sym (all-read (byteClasses v) v (fits-written v small)) ∙ byteOf-written v small)
+  pub isGood-fits : v < 256 → p + 20 ≤ length cs → {i : ℕ} → 10 ≤ i → ((j : ℕ) → j < i → fitsAt cs p v j ≡ true) → isGood v (byteAt cs p) ≡ true
+  isGood-fits small long last all =
+      let e : (j : ℕ) → j < 20 → place j ≡ written j = λ j h. elim (ℕ-discrete (j % 2) 0) [
+        | yes q ↦ (let z : 2 * (j / 2) ≡ j = omega arith in rw z at (fits-classes (j / 2) (all (j / 2) (omega arith)) .0))
+        | no q ↦ (let z : 2 * (j / 2) + 1 ≡ j = omega arith in rw z at (fits-classes (j / 2) (all (j / 2) (omega arith)) .1))
+      ] in
+      let n : length (twenty cs p) ≡ 20 = length-take-le 20 (drop p cs) (rw length-drop (omega arith)) in
+      let w : twenty cs p ≡ byteClasses v = ext-getD Noise (twenty cs p) (byteClasses v) (n ∙ sym (length-byte v)) (λ j h. getD-part cs p 20 j Noise (omega arith) ∙ e j (omega arith)) in
+      rw (byteAt-written cs p v small w) (eq-eqb v v refl)
 
   -- a pair is not
-  pub matches-false : (i : ℕ) → i < 10 → fits v i (pairAt cs (p + 2 * i)) ≡ false → false ≡ isGood v (byteAt cs p)
-  matches-false i h e = good-other v (byteAt cs p) (λ g.
-      let w = byteAt-good cs p v g in
-      let t = ap (λ ys. fits v i (nthPair ys i)) (w .0) in
-      let f = fits-written v (w .1) i h in
-      let q = ap (fits v i) (pair-twenty cs p i h) in
+  pub isGood-unfit : (i : ℕ) → i < 10 → fitsAt cs p v i ≡ false → isGood v (byteAt cs p) ≡ false
+  unfolding pairFits
+  isGood-unfit i h e = good-other v (byteAt cs p) (λ g.
+      let w : (j : ℕ) → j < 20 → place j ≡ written j = λ j l. sym (getD-part cs p 20 j Noise l) ∙ ap (λ ys. getD ys j Noise) (byteAt-good cs p v g .0) in
+      let t : fitsAt cs p v i ≡ true = rw (lt-ltb i 10 h, w (2 * i) (omega arith), second i, w (2 * i + 1) (omega arith), same-self (written (2 * i)), same-self (written (2 * i + 1))) in
       let z : _≡_ {A = ℕ} 0 1 = cc in omega arith)
 
   -- there are not twenty pulses
-  pub matches-fewer : length cs < p + 20 → false ≡ isGood v (byteAt cs p)
-  matches-fewer h = good-other v (byteAt cs p) (λ g. let w = byteAt-within cs p v g in omega arith)
+  pub isGood-fewer : length cs < p + 20 → isGood v (byteAt cs p) ≡ false
+  isGood-fewer h = good-other v (byteAt cs p) (λ g. let w = byteAt-within cs p v g in omega arith)

@@ -14,8 +14,7 @@ use Rattle.pulse.specs.declared.Class.{Class}
 use Rattle.pulse.specs.declared.Class.the-variants.{Short, Medium, Long, Noise}
 use Rattle.pulse.specs.Pulse.{classOf, classes, same}
 use Rattle.pulse.proofs.PulseLaws.{class-at}
-use Rattle.byte.specs.declared.Pair.{Pair}
-use Rattle.byte.specs.Byte.{pairOf, bitOf, pairAt, nthPair, twenty}
+use Rattle.byte.specs.Byte.{Pair, pairOf, bitOf, pairAt, nthPair, twenty}
 
 -- ---- A flag as a bit
 

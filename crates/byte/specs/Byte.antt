@@ -3,7 +3,7 @@ use Prim.Native.Nat.{ℕ, zero, suc, _+_, _*_, _/_, _%_}
 use mathlib.Core.Bool.{Bool, true, false, cond, not, _&&_, _||_}
 use mathlib.Core.List.{List, [], _∷_, _++_}
 use mathlib.Core.Option.{Option, none, some}
-use lib.Dec.{eqb}
+use lib.Dec.{eqb, ltb}
 use lib.ListN.{length, getD}
 use lib.Count.{ones}
 use Rattle.lists.specs.Places.{firstFrom, tabulate, part}
@@ -11,7 +11,6 @@ use Rattle.refusal.specs.Outcome.{Outcome, accepted, ifRoom}
 use Rattle.pulse.specs.declared.Class.{Class}
 use Rattle.pulse.specs.declared.Class.the-variants.{Short, Medium, Long, Noise}
 use Rattle.pulse.specs.Pulse.{pulses, same}
-use Rattle.byte.specs.declared.Pair.{Pair}
 use Rattle.byte.specs.declared.ByteRead.{ByteRead}
 use Rattle.byte.specs.declared.ByteRead.the-variants.{Good, Bad}
 
@@ -58,7 +57,13 @@ writeBytes room bytes = ifRoom room (length (bytesPulses bytes)) (accepted (byte
 
 -- ---- As read
 
--- two pulses: L M is the marker, S M is 0, M S is 1
+-- what two pulses are
+pub record Pair : Type 0 where
+  pub marker : Bool
+  pub zero : Bool
+  pub one : Bool
+
+-- L M is the marker, S M is 0, M S is 1
 unfoldable pub pairOf : Class → Class → Pair
 pairOf a b = record {
   marker = same a Long && same b Medium;
@@ -102,6 +107,10 @@ checked (some i) value parity = Bad
 unfoldable pub byteOf : List Class → ByteRead
 byteOf ys = checked (firstFrom (wrongPair ys) 10 0) (valueOf (tabulate (nthBit ys) 8 1)) (nthBit ys 9)
 
+-- what the pulses of a frame are, all of them: good only where they are twenty
+unfoldable pub readFrame : List Class → ByteRead
+readFrame ys = cond (eqb (length ys) 20) (byteOf ys) Bad
+
 -- the twenty pulses from a place of a strip on; fewer, where the strip ends before
 abbrev pub twenty : List Class → ℕ → List Class
 twenty cs p = part cs p 20
@@ -109,6 +118,11 @@ twenty cs p = part cs p 20
 -- the byte at a place of a strip
 unfoldable pub byteAt : List Class → ℕ → ByteRead
 byteAt cs p = byteOf (twenty cs p)
+
+-- two pulses are pair i of this byte as written; there are ten pairs
+unfoldable pub pairFits : (value i : ℕ) → Class → Class → Bool
+pairFits value i a b =
+    ltb i 10 && same a (getD (byteClasses value) (2 * i) Noise) && same b (getD (byteClasses value) (2 * i + 1) Noise)
 
 -- good, with this value
 abbrev pub isGood : ℕ → ByteRead → Bool

@@ -4,6 +4,9 @@
 //   pair      0       1     2     3     4     5     6     7     8       9
 //          marker   bit 0   1     2     3     4     5     6     7    parity
 //            L M    each bit: 0 is S M, 1 is M S
+mod decoder;
+
+use decoder::Bounds;
 use pulse::Class;
 use pulse::Cycles;
 use pulse::Thresholds;
@@ -16,8 +19,8 @@ ghost use lib.ListN.{length};
 ghost use lib.Seq.{sets};
 ghost use Rattle.refusal.specs.Promise.{Written};
 ghost use Rattle.pulse.specs.Pulse.{classOf, classes, pulses};
-ghost use Rattle.byte.specs.Byte.{isOdd, parityBit, coded, bytePulses, writeBytes, pairOf, isSound, bitOf, byteAt, isGood};
-ghost use Rattle.byte.specs.private.Decoder.{empty, fed, closed, codeOf, isPair};
+ghost use Rattle.byte.specs.Byte.{isOdd, parityBit, coded, bytePulses, writeBytes, byteAt, readFrame, pairFits};
+ghost use Rattle.byte.specs.private.Frame.{codeOf};
 ghost use Rattle.byte.specs.private.Nibbles.{nibble, nibbles};
 
 // What twenty pulses are.
@@ -28,7 +31,7 @@ pub enum ByteRead {
 
 pub const PAIR_PULSES: usize = 2;
 
-const PAIRS: usize = 10;
+pub const PAIRS: usize = 10;
 
 pub const BYTE_PULSES: usize = PAIR_PULSES * PAIRS;
 
@@ -61,40 +64,30 @@ pub fn byte_at(t: Thresholds, strip: &[u32], at: usize) -> ByteRead
     if strip.len() - BYTE_PULSES < at {
         return ByteRead::Bad;
     }
-    let mut d = Decoder::new();
-    let mut i: usize = 0;
-    while i < PAIRS {
-        let j = at + PAIR_PULSES * i;
-        d = d.feed(i, pair_of(t, Cycles(strip[j]), Cycles(strip[j + 1])));
-        i = i + 1;
-    }
-    d.close()
+    read_frame(t, &strip[at..at + BYTE_PULSES])
 }
 
-// Whether the twenty pulses at an index are a good byte of this value. The look ends at the first pair that is not as in that byte.
-pub fn matches(t: Thresholds, strip: &[u32], at: usize, value: u8) -> bool
-    ensures { λ r. ⌜ r ≡ isGood value (byteAt (classes t (now (strip .entry))) at) ⌝ }
+// The byte that a frame is, which has twenty pulses. Fewer or more are bad.
+pub fn read_frame(t: Thresholds, frame: &[u32]) -> ByteRead
+    ensures { λ r. ⌜ r ≡ readFrame (classes t (now (frame .entry))) ⌝ }
 {
-    if strip.len() < BYTE_PULSES {
+    decoder::decode(Bounds::new(t), frame)
+}
+
+// Whether two pulses are pair i of the byte with this value. There are ten pairs.
+pub fn pair_fits(t: Thresholds, value: u8, i: usize, first: Cycles, second: Cycles) -> bool
+    ensures { λ r. ⌜ r ≡ pairFits value i (classOf t (first .0)) (classOf t (second .0)) ⌝ }
+{
+    if PAIRS <= i {
         return false;
     }
-    if strip.len() - BYTE_PULSES < at {
-        return false;
+    if i == 0 {
+        return pulse::is_long(t, first) & pulse::is_medium(t, second);
     }
-    let code = code_of(value);
-    let mut k: usize = 0;
-    while k < PAIRS {
-        let j = at + PAIR_PULSES * k;
-        if !is_pair(
-            k,
-            (code >> k) % 2,
-            pair_of(t, Cycles(strip[j]), Cycles(strip[j + 1])),
-        ) {
-            return false;
-        }
-        k = k + 1;
+    if (code_of(value) >> i) % 2 == 0 {
+        return pulse::is_short(t, first) & pulse::is_medium(t, second);
     }
-    true
+    pulse::is_medium(t, first) & pulse::is_short(t, second)
 }
 
 // Writes bytes one after the other, twenty pulses each, and answers the number of pulses put. It refuses an output that is too short.
@@ -113,97 +106,11 @@ pub fn write_bytes(values: &[u8], out: &mut [u32]) -> Put
     Put::Count(BYTE_PULSES * values.len())
 }
 
-// What two pulses are: L M is the marker, S M a 0, M S a 1. As truth values, these are computed without a branch.
-struct Pair {
-    marker: bool,
-    zero: bool,
-    one: bool,
-}
-
-fn pair_of(t: Thresholds, first: Cycles, second: Cycles) -> Pair
-    ensures { λ r. ⌜ r ≡ pairOf (classOf t (first .0)) (classOf t (second .0)) ⌝ }
-{
-    Pair {
-        marker: pulse::is_long(t, first) & pulse::is_medium(t, second),
-        zero: pulse::is_short(t, first) & pulse::is_medium(t, second),
-        one: pulse::is_medium(t, first) & pulse::is_short(t, second),
-    }
-}
-
-// A byte that is read pair by pair: whether all pairs so far are what they have to be, and their bits, that of pair i at
-// place i. The marker has no bit.
-struct Decoder {
-    sound: bool,
-    bits: u32,
-}
-
-impl Decoder {
-    fn new() -> Decoder
-        ensures { λ r. ⌜ r ≡ empty ⌝ }
-    {
-        Decoder {
-            sound: true,
-            bits: 0,
-        }
-    }
-
-    // The decoder after pair i, which follows pair i - 1.
-    fn feed(self, i: usize, p: Pair) -> Decoder
-        requires { ⌜ i < 10 ⌝ }
-        ensures { λ r. ⌜ r ≡ fed self i p ⌝ }
-    {
-        Decoder {
-            sound: self.sound & is_sound(i, p),
-            bits: self.bits | bit_of(p) << i,
-        }
-    }
-
-    // The byte, after pair 9.
-    fn close(self) -> ByteRead
-        ensures { λ r. ⌜ r ≡ closed self ⌝ }
-    {
-        let value = (self.bits / FIRST % VALUES) as u8;
-        let parity = self.bits / PARITY;
-        if !self.sound {
-            return ByteRead::Bad;
-        }
-        if is_odd(u8::count_ones(value) + parity) {
-            ByteRead::Good(value)
-        } else {
-            ByteRead::Bad
-        }
-    }
-}
-
-// Whether a pair is what pair i has to be: the marker for pair 0, a bit for every other.
-fn is_sound(i: usize, p: Pair) -> bool
-    ensures { λ r. ⌜ r ≡ isSound i p ⌝ }
-{
-    if i == 0 { p.marker } else { p.zero | p.one }
-}
-
 // The bits of a byte, each at the place of its pair: the value at 1 to 8, the parity bit at 9.
 fn code_of(value: u8) -> u32
     ensures { λ r. ⌜ r ≡ codeOf value ⌝ }
 {
     FIRST * (value as u32 + VALUES * (parity_bit(value) as u32))
-}
-
-// Whether a pair is the marker, for pair 0, or this bit.
-fn is_pair(i: usize, bit: u32, p: Pair) -> bool
-    ensures { λ r. ⌜ r ≡ isPair i bit p ⌝ }
-{
-    if i == 0 {
-        return p.marker;
-    }
-    if bit == 0 { p.zero } else { p.one }
-}
-
-// The bit that a pair is, 0 where it is none.
-fn bit_of(p: Pair) -> u32
-    ensures { λ r. ⌜ r ≡ bitOf p ⌝ }
-{
-    p.one as u32
 }
 
 fn is_odd(n: u32) -> bool
@@ -266,9 +173,9 @@ fn put_nibble(out: &mut [u32], at: usize, table: &[[u32; NIBBLE_PULSES]; NIBBLES
     }
 }
 
-const S: u32 = pulse::SHORT_CYCLES;
+const S: u32 = pulse::SHORT_CYCLES.0;
 
-const M: u32 = pulse::MEDIUM_CYCLES;
+const M: u32 = pulse::MEDIUM_CYCLES.0;
 
 // The pulses of four bits, by the number that these are. Each use of the name makes the table anew, so it is used before a loop.
 const NIBBLE_TABLE: [[u32; NIBBLE_PULSES]; NIBBLES] = [

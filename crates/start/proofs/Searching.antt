@@ -121,6 +121,10 @@ module _ {cs : List Class} {from at : ℕ} (u : Searching cs from at) where
       run-ends : First (notShort cs) count (at + 16) end
       run-ends = some-first (notShort cs) count (at + 16) end e
 
+      -- where fewer than twenty pulses are left
+      pub findStart-cutShort : length cs < end + 20 → none ≡ startOf cs from
+      findStart-cutShort h = sym (startOf-nowhere (λ p s. run-over (run-ends .least) p (omega (arith, byteAt-within cs p 0x89 (s .first))) s))
+
       pub searching-otherByte : isGood 0x89 (byteAt cs end) ≡ false → Searching cs from (end + 1)
       searching-otherByte b = searching-past end (omega (arith, run-ends .low)) (run-ends .passes) (λ p h s. elim (ℕ-discrete p end) [
         | yes q ↦ let b′ = rw (← q, s .first) at b in let z : _≡_ {A = ℕ} 0 1 = cc in omega arith

@@ -124,29 +124,38 @@ fn first_not_short(t: Thresholds, strip: &[u32], at: usize) -> Found
 
 // Rule 1. The search looks at the sixteen pulses from `at` on, the last one first. A pulse that is not short rules out the sixteen places
 // after it, so the search goes on just after it. Where all sixteen are short, only the end of their run can be a start: no byte begins with
-// a short pulse.
+// a short pulse. The look there goes over the pairs of $89 and ends at the first that does not fit.
 pub fn find_start(t: Thresholds, strip: &[u32], from: usize) -> Found
     ensures { λ r. ⌜ foundAnswer r ≡ findStart (classes t (now (strip .entry))) from ⌝ }
 {
     let mut at = from;
     'search: loop {
-        if pulses_from(strip, at) < SYNC_SHORTS {
+        'runs: loop {
+            if pulses_from(strip, at) < SYNC_SHORTS {
+                break 'search Found::Nothing;
+            }
+            let Found::At(last) = last_not_short(t, strip, at) else {
+                break 'runs;
+            };
+            at = last + 1;
+        }
+        let Found::At(end) = first_not_short(t, strip, at + SYNC_SHORTS) else {
+            break 'search Found::Nothing;
+        };
+        if pulses_from(strip, end) < byte::BYTE_PULSES {
             break 'search Found::Nothing;
         }
-        if let Found::At(last) = last_not_short(t, strip, at) {
-            at = last + 1;
-        } else {
-            let Found::At(end) = first_not_short(t, strip, at + SYNC_SHORTS) else {
-                break 'search Found::Nothing;
-            };
-            // one turn: a block that can be left by its label
-            'look: loop {
-                if byte::matches(t, strip, end, SYNC_BYTE) {
-                    break 'search Found::At(end);
-                }
+        let mut i: usize = 0;
+        'look: loop {
+            if i == byte::PAIRS {
+                break 'search Found::At(end);
+            }
+            let j = end + byte::PAIR_PULSES * i;
+            if !byte::pair_fits(t, SYNC_BYTE, i, Cycles(strip[j]), Cycles(strip[j + 1])) {
                 break 'look;
             }
-            at = end + 1;
+            i = i + 1;
         }
+        at = end + 1;
     }
 }

@@ -4,6 +4,7 @@ use mathlib.Core.Path.{_≡_}
 use mathlib.Core.Bool.{Bool, true, false, cond}
 use mathlib.Core.List.{List}
 use mathlib.Core.Option.{Option, none, some}
+use lib.ListN.{getD}
 use Rattle.lists.specs.Places.{firstFrom}
 use Rattle.pulse.specs.declared.Thresholds.{Thresholds}
 use Rattle.pulse.specs.declared.Class.{Class}
@@ -55,6 +56,10 @@ pub record Checked (cs : List Class) (one two n : ℕ) (check : Check) (row : Li
 -- the bits of byte i after an index
 abbrev pub soundAt : (t : Thresholds) (strip : List ℕ) (at i : ℕ) → ℕ
 soundAt t strip at i = bitsAt t strip (bytePlace at i)
+
+-- the same where flag i is raised, else what a buffer holds there
+abbrev pub repairedAt : (t : Thresholds) (strip : List ℕ) (at : ℕ) (row buffer : List ℕ) (i : ℕ) → ℕ
+repairedAt t strip at row buffer i = cond (flagAt row i) (soundAt t strip at i) (getD buffer i 0)
 
 -- the bits of place i in the copy that its flag tells
 abbrev pub pickedAt : (t : Thresholds) (strip : List ℕ) (one two : ℕ) (row : List ℕ) (i : ℕ) → ℕ

@@ -10,7 +10,7 @@ use Rattle.byte.specs.Byte.{valueOf}
 
 -- the bit of pair i of the pulses from a place on: 1 where its first pulse is not below the medium threshold
 abbrev pub leadBit : (t : Thresholds) (strip : List ℕ) (at i : ℕ) → ℕ
-leadBit t strip at i = cond (leb (t .medium) (getD strip (at + 2 * i) 0)) 1 0
+leadBit t strip at i = cond (leb (t .medium .0) (getD strip (at + 2 * i) 0)) 1 0
 
 -- the number with the bits of pairs 1 to 8
 unfoldable pub bitsAt : (t : Thresholds) (strip : List ℕ) (at : ℕ) → ℕ

@@ -1,114 +1,128 @@
--- `block::rules::read_place` meets its contract. The invariant: the byte to be read is copy one's; or copy one's is bad, the flag is raised, and it
--- is copy two's.
-use Prim.Native.Nat.{_+_, _-_, _*_, _≤_}
+-- `block::rules::read_place` meets its contract.
+use Prim.Native.Nat.{_+_, _-_, _*_}
 use native.Mathlib.Omega.{arith}
-use mathlib.Core.Path.{refl, sym, _∙_}
-use mathlib.Core.Logic.{inl}
-use borrow.Author.Needs.{needs}
+use mathlib.Core.Path.{_≡_, sym, _∙_}
 use denote.Ref.{now}
 use Rattle.pulse.specs.Pulse.{classes}
-use Rattle.block.proofs.Checking.{AtCopy, atCopy-long, atCopy-good, atCopy-lost, atCopy-next}
+use Rattle.byte.proofs.ByteLaws.{readFrame-part}
+use Rattle.block.proofs.Checking.{place-one, place-two}
+use borrow.Author.Needs.{needs}
 use Rattle.block.proofs.rules.read_place.Statement.{statement}
 use Rattle.block.proofs.rules.read_place.Tie as tie
 
-abbrev Inv-copies : tie.InvT-copies
-Inv-copies t strip one two i flags₀ at from₀ flags from = (from ≤ two + 20 * (9 + i)) × AtCopy (classes t strip) one two i flags₀ flags from
-
-abbrev μ-copies : tie.MeasureT-copies
-μ-copies t strip one two i flags₀ at from₀ flags from = two + 20 * (9 + i) - from
-
-add-at : tie.Need-add-at Inv-copies μ-copies
+add-at : tie.Need-add-at
 add-at c = search needs
 
-mul-at : tie.Need-mul-at Inv-copies μ-copies
+mul-at : tie.Need-mul-at
 mul-at c = search needs
 
-add-from : tie.Need-add-from Inv-copies μ-copies
-add-from c = search needs
+add-read-frame : tie.Need-add-read-frame
+add-read-frame c = search needs
 
-copies-holds : tie.Need-copies-holds Inv-copies μ-copies
-copies-holds c = (omega arith, inl (refl, refl))
+add-read-frame-2 : tie.Need-add-read-frame-2
+add-read-frame-2 c = search needs
 
-byte-at-requires : tie.Need-byte-at-requires Inv-copies μ-copies
-byte-at-requires c κs = search needs
+add-read-frame-3 : tie.Need-add-read-frame-3
+add-read-frame-3 c = search needs
 
-enum-known-value : tie.Need-enum-known-value Inv-copies μ-copies
+mul-read-frame : tie.Need-mul-read-frame
+mul-read-frame c = search needs
+
+sub-read-frame : tie.Need-sub-read-frame
+sub-read-frame c = search needs
+
+part-read-frame-start : tie.Need-part-read-frame-start
+part-read-frame-start c = search needs
+
+part-read-frame-end : tie.Need-part-read-frame-end
+part-read-frame-end c = search needs
+
+read-frame-requires : tie.Need-read-frame-requires
+read-frame-requires c κs = search needs
+
+enum-known-value : tie.Need-enum-known-value
 enum-known-value c = search needs
 
-enum-told : tie.Need-enum-told Inv-copies μ-copies
+enum-told : tie.Need-enum-told
 enum-told c = search needs
 
-add-if1 : tie.Need-add-if1 Inv-copies μ-copies
-add-if1 c = search needs
-
-same-length : tie.Need-same-length Inv-copies μ-copies
-same-length c =
-    let r = c .before .before .before in
-    let copies = r .before in
-    let start = copies .before .before .before in
-    let args = start .args in
-    atCopy-long (classes (args .t) (now (args .strip))) (args .one) (args .two) (args .i) (now (args .row)) (copies .copies .inv .1)
-
-returns : tie.Need-returns Inv-copies μ-copies
-returns c =
-    let byte-at = c .before .before .before in
-    let copies = byte-at .before in
-    let start = copies .before .before .before in
-    let args = start .args in
-    atCopy-lost (classes (args .t) (now (args .strip))) (args .one) (args .two) (args .i) (now (args .row)) (copies .copies .inv .1) (start .pre .0) (c .if1 .taken) (sym (byte-at .byte-at .ensures) ∙ c .before .enum-told .given .1)
-
-raise-flag-requires : tie.Need-raise-flag-requires Inv-copies μ-copies
+raise-flag-requires : tie.Need-raise-flag-requires
 raise-flag-requires c κs = search needs
 
-add-from-2 : tie.Need-add-from-2 Inv-copies μ-copies
-add-from-2 c = search needs
+add-read-frame-4 : tie.Need-add-read-frame-4
+add-read-frame-4 c = search needs
 
-copies-less : tie.Need-copies-less Inv-copies μ-copies
-copies-less c = search needs
+add-read-frame-5 : tie.Need-add-read-frame-5
+add-read-frame-5 c = search needs
 
-copies-again : tie.Need-copies-again Inv-copies μ-copies
-copies-again c =
-    let byte-at = c .before .before .before .before .before .before .before in
-    let copies = byte-at .before in
-    let start = copies .before .before .before in
-    let args = start .args in
-    (omega arith, atCopy-next (classes (args .t) (now (args .strip))) (args .one) (args .two) (args .i) (now (args .row)) (copies .copies .inv .1) (c .before .before .before .before .if1 .left) (sym (byte-at .byte-at .ensures) ∙ c .before .before .before .before .before .enum-told .given .1) (c .before .before .raise-flag .ensures))
+add-read-frame-6 : tie.Need-add-read-frame-6
+add-read-frame-6 c = search needs
 
-same-length-2 : tie.Need-same-length-2 Inv-copies μ-copies
-same-length-2 c =
-    let r = c .before .before .before in
-    let copies = r .before in
-    let start = copies .before .before .before in
-    let args = start .args in
-    atCopy-long (classes (args .t) (now (args .strip))) (args .one) (args .two) (args .i) (now (args .row)) (copies .copies .inv .1)
+mul-read-frame-2 : tie.Need-mul-read-frame-2
+mul-read-frame-2 c = search needs
 
-returns-2 : tie.Need-returns-2 Inv-copies μ-copies
+sub-read-frame-2 : tie.Need-sub-read-frame-2
+sub-read-frame-2 c = search needs
+
+part-read-frame-start-2 : tie.Need-part-read-frame-start-2
+part-read-frame-start-2 c = search needs
+
+part-read-frame-end-2 : tie.Need-part-read-frame-end-2
+part-read-frame-end-2 c = search needs
+
+read-frame-requires-2 : tie.Need-read-frame-requires-2
+read-frame-requires-2 c κs = search needs
+
+same-length : tie.Need-same-length
+same-length c = search needs
+
+returns : tie.Need-returns
+returns c =
+    let raise-flag = c .before .before .before .before in
+    let arm = raise-flag .before .before in
+    let first = arm .before .before in
+    let args = first .before .before .before .before .args in
+    let at = 20 * (9 + args .i) in
+    let one = readFrame-part (args .t) (now (args .strip)) (args .one + at) _ (let z : args .one + at + 20 - (args .one + at) ≡ 20 = omega arith in z) (omega arith) in
+    let two = readFrame-part (args .t) (now (args .strip)) (args .two + at) _ (let z : args .two + at + 20 - (args .two + at) ≡ 20 = omega arith in z) (omega arith) in
+    let p = place-two (classes (args .t) (now (args .strip))) (args .one) (args .two) (args .i) (now (args .row))
+    (sym one ∙ sym (first .read-frame .ensures) ∙ arm .enum-told .given .1) (c .read-frame2 .ensures ∙ two) in
+    (p .0, raise-flag .raise-flag .ensures ∙ p .1)
+
+returns-2 : tie.Need-returns-2
 returns-2 c =
-    let byte-at = c .before .before .before in
-    let copies = byte-at .before in
-    let start = copies .before .before .before in
-    let args = start .args in
-    atCopy-good (classes (args .t) (now (args .strip))) (args .one) (args .two) (args .i) (now (args .row)) (copies .copies .inv .1) (sym (byte-at .byte-at .ensures) ∙ c .before .value .given .1)
+    let first = c .before .before .before in
+    let args = first .before .before .before .before .args in
+    let at = 20 * (9 + args .i) in
+    let one = readFrame-part (args .t) (now (args .strip)) (args .one + at) _ (let z : args .one + at + 20 - (args .one + at) ≡ 20 = omega arith in z) (omega arith) in
+    place-one (classes (args .t) (now (args .strip))) (args .one) (args .two) (args .i) (now (args .row))
+    (sym one ∙ sym (first .read-frame .ensures) ∙ c .before .value .given .1)
 
 pub read-place-spec : {M : Type 1} → statement M
 read-place-spec =
     tie.close
     (tie.spec
-    Inv-copies
-    μ-copies
     add-at
     mul-at
-    add-from
-    copies-holds
-    byte-at-requires
+    add-read-frame
+    add-read-frame-2
+    add-read-frame-3
+    mul-read-frame
+    sub-read-frame
+    part-read-frame-start
+    part-read-frame-end
+    read-frame-requires
     enum-known-value
     enum-told
-    add-if1
+    raise-flag-requires
+    add-read-frame-4
+    add-read-frame-5
+    add-read-frame-6
+    mul-read-frame-2
+    sub-read-frame-2
+    part-read-frame-start-2
+    part-read-frame-end-2
+    read-frame-requires-2
     same-length
     returns
-    raise-flag-requires
-    add-from-2
-    copies-less
-    copies-again
-    same-length-2
     returns-2)

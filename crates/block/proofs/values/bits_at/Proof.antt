@@ -16,20 +16,20 @@ abbrev μ-loop : tie.MeasureT-loop
 loop-holds : tie.Need-loop-holds Inv-loop μ-loop
 loop-holds c = let args = c .args in (omega arith, bits-begun (args .t) (now (args .strip)) (args .at))
 
-add-j : tie.Need-add-j Inv-loop μ-loop
-add-j c = search needs
+add-t8 : tie.Need-add-t8 Inv-loop μ-loop
+add-t8 c = search needs
 
-mul-j : tie.Need-mul-j Inv-loop μ-loop
-mul-j c = search needs
+mul-t9 : tie.Need-mul-t9 Inv-loop μ-loop
+mul-t9 c = search needs
 
-add-j-2 : tie.Need-add-j-2 Inv-loop μ-loop
-add-j-2 c = search needs
+add-t10 : tie.Need-add-t10 Inv-loop μ-loop
+add-t10 c = search needs
 
-mul-value : tie.Need-mul-value Inv-loop μ-loop
-mul-value c = search needs
+mul-t11 : tie.Need-mul-t11 Inv-loop μ-loop
+mul-t11 c = search needs
 
-shared-slice-read-value : tie.Need-shared-slice-read-value Inv-loop μ-loop
-shared-slice-read-value c = search needs
+shared-slice-read-t13 : tie.Need-shared-slice-read-t13 Inv-loop μ-loop
+shared-slice-read-t13 c = search needs
 
 cast-value : tie.Need-cast-value Inv-loop μ-loop
 cast-value c = search needs
@@ -48,7 +48,7 @@ loop-less c = search needs
 
 loop-again : tie.Need-loop-again Inv-loop μ-loop
 loop-again c =
-    let loop = c .before .before .before in
+    let loop = c .before .before .before .before in
     let args = loop .before .args in
     (omega arith, bits-next (args .t) (now (args .strip)) (args .at) (omega arith) (loop .loop .inv .1))
 
@@ -65,11 +65,11 @@ bits-at-spec =
     Inv-loop
     μ-loop
     loop-holds
-    add-j
-    mul-j
-    add-j-2
-    mul-value
-    shared-slice-read-value
+    add-t8
+    mul-t9
+    add-t10
+    mul-t11
+    shared-slice-read-t13
     cast-value
     cast-value-2
     shl-value

@@ -1,4 +1,4 @@
--- `block::values::fill_sound` meets its contract. The invariant: the values left, put after those that are there, give the whole.
+-- `block::values::fill_copy` meets its contract. The invariant: the values left, put after those that are there, give the whole.
 use Prim.Native.Nat.{_+_, _-_, _≤_}
 use native.Mathlib.Omega.{arith}
 use mathlib.Core.Path.{refl, sym, ap, _∙_}
@@ -8,8 +8,8 @@ use denote.Ref.{now}
 use Rattle.lists.specs.Places.{tabulate}
 use Rattle.lists.proofs.LoopLaws.{put-begun, put-one, put-done, table-begun, table-next, table-over, Putting, tableLeft}
 use Rattle.block.specs.private.Checks.{soundAt}
-use Rattle.block.proofs.values.fill_sound.Statement.{statement}
-use Rattle.block.proofs.values.fill_sound.Tie as tie
+use Rattle.block.proofs.values.fill_copy.Statement.{statement}
+use Rattle.block.proofs.values.fill_copy.Tie as tie
 
 abbrev Inv-loop : tie.InvT-loop
 Inv-loop t strip at n out₀ i₀ out i = (i ≤ n) × Putting out₀ 0 (tabulate (soundAt t strip at) n 0) out i (tableLeft (soundAt t strip at) n i)
@@ -55,8 +55,8 @@ returns c =
     let args = loop .before .before .before .args in
     put-done (loop .loop .inv .1) (table-over (soundAt (args .t) (now (args .strip)) (args .at)) (args .n) (loop .loop .i) (c .loop-test .left))
 
-pub fill-sound-spec : {M : Type 1} → statement M
-fill-sound-spec =
+pub fill-copy-spec : {M : Type 1} → statement M
+fill-copy-spec =
     tie.close
     (tie.spec
     Inv-loop
