@@ -4,11 +4,13 @@ use mathlib.Core.Path.{_≡_}
 use mathlib.Core.List.{List, [], _∷_}
 use lib.ListN.{length, getD, set, replicate}
 use Rattle.refusal.specs.Outcome.{refusedBy, accepted, mapped}
+use Rattle.pulse.specs.declared.Class.{Class}
 use Rattle.pulse.specs.declared.Class.the-variants.{Short, Medium, Long, Noise}
 use Rattle.pulse.specs.Pulse.{fixed, classOf, classes}
 use Rattle.byte.specs.declared.ByteRead.the-variants.{Good}
 use Rattle.byte.specs.Byte.{parityBit, byteClasses, bytePulses, byteAt}
-use Rattle.block.specs.Block.{checksum, blockPulses, writeBlock}
+use Rattle.byte.specs.Damage.{differ}
+use Rattle.block.specs.Block.{checksum, blockClasses, blockPulses, writeBlock}
 use Rattle.block.specs.Reading.{readBlock}
 use Rattle.header.specs.declared.Fields.{Fields}
 use Rattle.header.specs.Header.{headerBytes, fieldsOf}
@@ -25,9 +27,16 @@ All (case ∷ rest) = case × All rest
 abbrev pub swapped : ℕ → List ℕ → List ℕ
 swapped i strip = set (set strip i (getD strip (i + 1) 0)) (i + 1) (getD strip i 0)
 
--- bits 0 and 1 of the byte at a place turned round, four pulses
+-- bits 0 and 1 of the byte at a place turned round
 abbrev pub turned : ℕ → List ℕ → List ℕ
 turned p strip = swapped (p + 4) (swapped (p + 2) strip)
+
+-- $00 so turned; and the block with that payload byte, so turned in copy one
+abbrev pub turnedByte : List Class
+turnedByte = classes fixed (turned 0 (bytePulses 0x00))
+
+abbrev pub turnedBlock : List Class
+turnedBlock = classes fixed (turned (64 + 20 * 9) (blockPulses 64 (0x00 ∷ [])))
 
 -- a type 1 program from $0801 to $9709, named GAME
 abbrev pub gameFields : Fields
@@ -72,10 +81,12 @@ cases =
     ∷ (dataBytes (fieldsOf gameHeader) ≡ 36616)
     ∷ (readFile (classes fixed (blockPulses 64 gameHeader)) 192 36616 0 ≡ refusedBy 9 0 0)
     ∷ (writeFile 1000000 (file gameFields gameName (replicate 36616 0x00) 64 64) ≡ refusedBy 9 0 0)
-    -- $00 with bits 0 and 1 turned round is a good $03
-    ∷ (byteAt (classes fixed (turned 0 (bytePulses 0x00))) 0 ≡ Good 0x03)
-    -- the same in copy one's payload place, n = 1: refused with 7, place 1
-    ∷ (readBlock (classes fixed (turned (64 + 20 * 9) (blockPulses 64 (0x00 ∷ [])))) 1 0 1 ≡ refusedBy 7 0 1)
+    -- $00 with bits 0 and 1 turned round, four pulses, is a good $03
+    ∷ (differ (byteClasses 0x00) turnedByte ≡ 4)
+    ∷ (byteAt turnedByte 0 ≡ Good 0x03)
+    -- the same in copy one's payload place, n = 1, all else sound: refused with 7, place 1
+    ∷ (differ (blockClasses 64 (0x00 ∷ [])) turnedBlock ≡ 4)
+    ∷ (readBlock turnedBlock 1 0 1 ≡ refusedBy 7 0 1)
     -- n = 1, K = 64: 626 pulses
     ∷ (mapped length (writeBlock 626 64 (0x00 ∷ [])) ≡ accepted 626)
     -- TAP data 2D 41 56 is 360, 520, 688 in either version

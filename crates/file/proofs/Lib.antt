@@ -4,3 +4,4 @@ mod Loading
 pub mod FileLaws
 pub mod Demand3
 pub mod NotEmpty
+pub mod NeverNoise

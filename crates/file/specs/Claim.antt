@@ -1,4 +1,5 @@
--- Demand 3, as one claim from what the writer is lent to what the reader returns (document 01, 'Damage').
+-- Two claims: demand 3, from what the writer is lent to what the reader returns (document 01, 'Damage'); and that noise is never written
+-- ('Pulses').
 use Prim.Native.Nat.{ℕ, _-_, _<_, _≤_}
 use mathlib.Core.Path.{_≡_}
 use mathlib.Core.List.{List}
@@ -6,11 +7,13 @@ use lib.ListN.{length, drop}
 use Rattle.lists.specs.Places.{part, Below}
 use Rattle.refusal.specs.declared.Put.the-variants.{Count}
 use Rattle.refusal.specs.Promise.{Written}
-use Rattle.pulse.specs.Pulse.{fixed, classes}
+use Rattle.pulse.specs.Pulse.{fixed, classes, NoNoise, Figures}
+use Rattle.byte.specs.Byte.{bytesClasses}
+use Rattle.block.specs.Block.{blockClasses}
 use Rattle.header.specs.Header.{filled}
 use Rattle.file.specs.declared.FileAnswer.{FileAnswer}
 use Rattle.file.specs.declared.FileAnswer.the-variants.{Accepted}
-use Rattle.file.specs.File.{File, fileHeader, dataBytes, writeFile}
+use Rattle.file.specs.File.{File, fileHeader, filePulses, dataBytes, writeFile}
 use Rattle.file.specs.Reading.{readFile, FilePromise}
 use Rattle.file.specs.Damage.{FileDamaged}
 
@@ -69,3 +72,12 @@ pub record Demand3 : Type 0 where
       → Differ f g → (strip : List ℕ) → FileDamaged fixed f count strip → FileDamaged fixed g count′ strip → ⊥
   -- The strip as written, which the writer left in the buffer, lies within its own damage.
   pub within : (f : File) (out : List ℕ) (count : ℕ) (out′ : List ℕ) → Sent f out count out′ → FileDamaged fixed f count (part out′ 0 count)
+
+-- Noise is never written.
+pub record NeverNoise : Type 0 where
+  -- No class is N: for all bytes; for every leader and payload of a block; for every type, address, name, leader and payload of a file.
+  pub bytes : (bytes : List ℕ) → NoNoise (bytesClasses bytes)
+  pub block : (leader : ℕ) (payload : List ℕ) → NoNoise (blockClasses leader payload)
+  pub file : (f : File) → NoNoise (classes fixed (filePulses f))
+  -- Every pulse that the file writer puts is 360, 520 or 688 cycles long.
+  pub put : (f : File) (out : List ℕ) (count : ℕ) (out′ : List ℕ) → Sent f out count out′ → Figures (part out′ 0 count)
