@@ -1,5 +1,5 @@
 # `rt`, the command of the Rattle kit, has to be on the PATH; for lib, test and bench also cc, and for the last two cargo.
-.PHONY: run test lib bench
+.PHONY: run test lib bench-lib bench bench-store
 
 TAPE = samples/game.tap
 
@@ -22,5 +22,14 @@ lib: # prove and build the library for C
 	@cp target/staticlib/libcapi.a "$(LIB)/lib/libcrumbthistle.a"
 	@echo "cc -I$(LIB)/include PROGRAM.c -L$(LIB)/lib -lcrumbthistle"
 
-bench: lib # our library and an independent Rust implementation side by side
-	@cd tests/differential && cargo run --release --offline --quiet --bin bench
+bench-lib: # prove and build the archive of the crate bench, which the Rust tests link too
+	@mkdir -p target
+	@rt staticlib bench > target/bench-lib.log 2>&1 || { tail -n 40 target/bench-lib.log; exit 1; }
+
+BENCH = cargo run --release --offline --quiet --bin bench --
+
+bench: lib bench-lib # our library and an independent Rust implementation side by side, and beside the stored ratios
+	@cd tests/differential && $(BENCH)
+
+bench-store: lib bench-lib # the same, and its ratios are stored
+	@cd tests/differential && $(BENCH) --store

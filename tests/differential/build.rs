@@ -1,4 +1,4 @@
-//! Links the archive of the library under test.
+//! Links the archive of the library under test and that of the crate `bench`.
 
 use std::env;
 use std::path::PathBuf;
@@ -13,10 +13,10 @@ fn main() {
         }
     };
     println!("cargo:rerun-if-env-changed=CRUMBTHISTLE_LIB");
-    println!(
-        "cargo:rerun-if-changed={}",
-        folder.join("libcapi.a").display()
-    );
     println!("cargo:rustc-link-search=native={}", folder.display());
-    println!("cargo:rustc-link-lib=static=capi");
+    for name in ["capi", "bench"] {
+        let archive = folder.join(format!("lib{name}.a"));
+        println!("cargo:rerun-if-changed={}", archive.display());
+        println!("cargo:rustc-link-lib=static={name}");
+    }
 }

@@ -6,8 +6,11 @@ use std::env;
 use std::fmt::Debug;
 
 use crate::random::Random;
+use crate::readers::Tally;
+use crate::reference::byte::read_byte;
 use crate::reference::{BlockRead, FileRead, Header, Refusal, Span, TapRead};
-use crate::{library, reference};
+use crate::thresholds::Thresholds;
+use crate::{library, readers, reference};
 
 const DEFAULT_SEED: u64 = 0xc64;
 const DEFAULT_CALLS: u64 = 60_000;
@@ -202,16 +205,44 @@ impl Run {
     ) -> Result<(BlockRead, Vec<u8>), Refusal> {
         let mut ours = lend_bytes(random, room);
         let mut theirs = ours.clone();
+        let mut among_others = ours.clone();
         let answer = library::read_block(pulses, from, n, ours.part());
         let expected = reference::read_block(pulses, from, n, theirs.part());
+        let count = readers::read_block(pulses, from, n, among_others.part());
         self.settle(
             "read_block",
             &answer,
             &expected,
-            &[ours.difference(&theirs)],
+            &[ours.difference(&theirs), among_others.difference(&theirs)],
             || format!("pulses {}, from {from}, n {n}, room {room}", brief(pulses)),
         );
+        assert_eq!(count, answer.map_or(0, |read| read.n));
         answer.map(|read| (read, ours.part().to_vec()))
+    }
+
+    /// Bytes with thresholds of any kind, beside the plain classification.
+    pub fn read_bytes(&mut self, thresholds: Thresholds, pulses: &[u32]) {
+        let answer = readers::read_bytes(pulses, thresholds.0);
+        let expected = thresholds.tally(pulses);
+        let call = match expected.good {
+            0 => "read_bytes, none good",
+            _ => "read_bytes",
+        };
+        self.settle(call, &Ok(answer), &Ok(expected), &[], || {
+            format!("{thresholds:?}, pulses {}", brief(pulses))
+        });
+    }
+
+    pub fn read_fixed(&mut self, pulses: &[u32]) {
+        let answer = readers::read_fixed(pulses);
+        let expected = Tally::by(read_byte, pulses);
+        let call = match expected.good {
+            0 => "read_fixed, none good",
+            _ => "read_fixed",
+        };
+        self.settle(call, &Ok(answer), &Ok(expected), &[], || {
+            format!("pulses {}", brief(pulses))
+        });
     }
 
     pub fn write_file(

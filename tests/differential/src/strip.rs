@@ -145,7 +145,7 @@ pub fn damage(random: &mut Random, pulses: &mut [u32], block: Placed) {
 }
 
 /// Gives this many pulses of a byte another class.
-fn hit(random: &mut Random, frame: &mut [u32], hits: usize) {
+pub fn hit(random: &mut Random, frame: &mut [u32], hits: usize) {
     let classes: Vec<Class> = frame.iter().map(|&pulse| Class::of(pulse)).collect();
     let mut left = hits;
     while left > 0 {
@@ -155,6 +155,14 @@ fn hit(random: &mut Random, frame: &mut [u32], hits: usize) {
             left -= 1;
         }
     }
+}
+
+/// So many in a hundred byte places of a copy, never the first.
+pub fn places_to_spoil(random: &mut Random, block: Placed, percent: usize) -> Vec<usize> {
+    let mut sound: Vec<usize> = (1..block.byte_places()).collect();
+    (0..(sound.len() * percent + 50) / 100)
+        .map(|_| sound.swap_remove(random.below(sound.len())))
+        .collect()
 }
 
 /// The pulses of a byte place, or none where the strip is too short for it.

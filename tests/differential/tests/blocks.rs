@@ -5,9 +5,10 @@ use differential::compare::{Run, Scene};
 use differential::random::Random;
 use differential::reference::block::{block_len, SHORTS_BEFORE};
 use differential::strip::{
-    cut, damage, drift, patchwork, push_block, push_byte, push_near_start, push_shorts, spoil,
-    Placed,
+    cut, damage, drift, hit, patchwork, places_to_spoil, push_block, push_byte, push_near_start,
+    push_shorts, spoil, Placed,
 };
+use differential::thresholds::FIXED;
 
 const ANSWERS: [(&str, &[(u32, u32)]); 2] = [
     ("write_block", &[(0, 0), (1, 0), (2, 0), (14, 0)]),
@@ -26,10 +27,11 @@ const ANSWERS: [(&str, &[(u32, u32)]); 2] = [
     ),
 ];
 
-const SCENES: [Scene; 12] = [
+const SCENES: [Scene; 13] = [
     ("written", written),
     ("sound", sound),
     ("within the damage", within_the_damage),
+    ("bad bytes in copy one", bad_in_copy_one),
     ("beyond the damage", beyond_the_damage),
     ("beyond the damage", beyond_the_damage),
     ("cut", cut_short),
@@ -153,7 +155,7 @@ fn every_cut_and_every_place() {
     run.finish(&[("read_block", &[(0, 0), (3, 0), (4, 0)])]);
 }
 
-/// Every pulse of a short block in every other class, in one copy and in both.
+/// Every pulse of a short block at every edge, in one copy and in both.
 #[test]
 fn every_pulse_changed() {
     let mut run = Run::new("changes of a block");
@@ -161,7 +163,7 @@ fn every_pulse_changed() {
     let mut pulses = Vec::new();
     let block = push_block(&mut pulses, &[0x41], 64);
     for i in 0..pulses.len() {
-        for pulse in [199, 200, 439, 440, 607, 608, 959, 960] {
+        for pulse in FIXED.edges() {
             let mut changed = pulses.clone();
             changed[i] = pulse;
             let _ = run.read_block(&mut random, &changed, 0, 1, 2);
@@ -271,6 +273,31 @@ fn within_the_damage(run: &mut Run, random: &mut Random) {
     let (read, out) = answer.expect("a block within the damage is read");
     assert_eq!((read.start, read.end), (block.start(), block.end()));
     assert_eq!(out[..block.n], payload);
+}
+
+/// Few bytes, some or all of copy one bad, and now and then one of the same
+/// places in copy two.
+fn bad_in_copy_one(run: &mut Run, random: &mut Random) {
+    let mut pulses = Vec::new();
+    let n = match random.below(50) {
+        0 => random.within(8000..=8192),
+        _ => random.within(100..=400),
+    };
+    let payload = random.bytes(n);
+    let block = push_block(&mut pulses, &payload, 64);
+    let percent = random.pick(&[1, 10, 100]);
+    let places = places_to_spoil(random, block, percent);
+    for &place in &places {
+        hit(random, &mut pulses[block.frame(0, place)], 1);
+    }
+    drift(random, &mut pulses);
+    let lost = random.once_in(4);
+    if lost {
+        let place = random.pick(&places);
+        hit(random, &mut pulses[block.frame(1, place)], 1);
+    }
+    let answer = run.read_block(random, &pulses, 0, n, n);
+    assert_eq!(answer.ok().map(|(_, out)| out), (!lost).then_some(payload));
 }
 
 fn beyond_the_damage(run: &mut Run, random: &mut Random) {
