@@ -24,7 +24,7 @@ use Rattle.byte.specs.declared.ByteRead.the-variants.{Good, Bad}
 use Rattle.byte.specs.Byte.{isOdd, bits, parityBit, coded, byteClasses, twenty, byteAt, pairFits, isGood}
 use Rattle.byte.specs.private.Frame.{codeOf}
 use Rattle.byte.proofs.CodingLaws.{length-byte}
-use Rattle.byte.proofs.ByteLaws.{byteAt-written, byteAt-good, byteAt-within}
+use Rattle.byte.proofs.ByteLaws.{byteAt-written, byteAt-good}
 
 -- ---- A pair of the byte as written
 
@@ -126,7 +126,3 @@ module _ (cs : List Class) (p v : ℕ) where
       let w : (j : ℕ) → j < 20 → place j ≡ written j = λ j l. sym (getD-part cs p 20 j Noise l) ∙ ap (λ ys. getD ys j Noise) (byteAt-good cs p v g .0) in
       let t : fitsAt cs p v i ≡ true = rw (lt-ltb i 10 h, w (2 * i) (omega arith), second i, w (2 * i + 1) (omega arith), same-self (written (2 * i)), same-self (written (2 * i + 1))) in
       let z : _≡_ {A = ℕ} 0 1 = cc in omega arith)
-
-  -- there are not twenty pulses
-  pub isGood-fewer : length cs < p + 20 → isGood v (byteAt cs p) ≡ false
-  isGood-fewer h = good-other v (byteAt cs p) (λ g. let w = byteAt-within cs p v g in omega arith)
