@@ -8,8 +8,8 @@ use mathlib.Core.List.{List}
 use mathlib.Core.Option.{Option, none, some}
 use lib.ListN.{length, length-map}
 use lib.Seq.{sets}
-use Rattle.lists.specs.Places.{firstFrom, tabulate}
-use Rattle.lists.proofs.PlaceLaws.{length-tabulate}
+use Rattle.lists.specs.Places.{firstFrom}
+use Rattle.lists.proofs.PlaceLaws.{none-first, length-tabulate}
 use Rattle.lists.proofs.BufferLaws.{put-room}
 use Rattle.refusal.specs.declared.Reason.{Reason}
 use Rattle.refusal.specs.declared.Reason.the-variants.{WrongSize, NoRoom, NoStart, WrongCountdown, LostByte, WrongChecksum}
@@ -35,8 +35,7 @@ use Rattle.block.specs.declared.rules.Check.{Check}
 use Rattle.block.specs.declared.rules.Check.the-variants.{Sound, LostAt, WrongSum}
 use Rattle.block.specs.Block.{wrongSize}
 use Rattle.block.specs.Reading.{isMiscounted, isLost, valueAt, valuesAt, sumHolds, BlockRead, extentOf, payloadOf, blockAt, readCopies, readAt, readFrom, readBlock, blockAnswer, BlockPromise}
-use Rattle.block.specs.private.Checks.{checkOf, Checked, pickedAt}
-use Rattle.block.proofs.Checking.{picked-values}
+use Rattle.block.specs.private.Checks.{checkOf, repairs, Flagged, NoneLost, Checked}
 
 refuses : (o : Outcome BlockRead) (out : List ℕ) (reason : Reason) {place : ℕ} {r : BlockAnswer} → o ≡ refuse reason place → r ≡ Refused (refusalAt reason place)
     → BlockPromise o out r out
@@ -44,20 +43,27 @@ refuses o out reason e q = promise-refused extentOf payloadOf o out e (ap blockA
 
 -- ---- What rules 4 and 5 found
 
-check-lost : (o : Option ℕ) (t : Bool) {i : ℕ} → checkOf o t ≡ LostAt i → o ≡ some i
-check-lost none true e = absurd (let z : _≡_ {A = ℕ} 0 1 = cc in omega arith)
-check-lost none false e = absurd (let z : _≡_ {A = ℕ} 0 1 = cc in omega arith)
-check-lost (some j) t e = cc
+check-lost : (o : Option ℕ) (t : Bool) (k : ℕ) {i : ℕ} → checkOf o t k ≡ LostAt i → o ≡ some i
+check-lost none true k e = absurd (let z : _≡_ {A = ℕ} 0 1 = cc in omega arith)
+check-lost none false k e = absurd (let z : _≡_ {A = ℕ} 0 1 = cc in omega arith)
+check-lost (some j) t k e = cc
 
-check-wrong : (o : Option ℕ) (t : Bool) → checkOf o t ≡ WrongSum → (o ≡ none) × (t ≡ false)
-check-wrong none true e = absurd (let z : _≡_ {A = ℕ} 0 1 = cc in omega arith)
-check-wrong none false e = (refl, refl)
-check-wrong (some j) t e = absurd (let z : _≡_ {A = ℕ} 0 1 = cc in omega arith)
+check-wrong : (o : Option ℕ) (t : Bool) (k : ℕ) → checkOf o t k ≡ WrongSum → (o ≡ none) × (t ≡ false)
+check-wrong none true k e = absurd (let z : _≡_ {A = ℕ} 0 1 = cc in omega arith)
+check-wrong none false k e = (refl, refl)
+check-wrong (some j) t k e = absurd (let z : _≡_ {A = ℕ} 0 1 = cc in omega arith)
 
-check-sound : (o : Option ℕ) (t : Bool) → checkOf o t ≡ Sound → (o ≡ none) × (t ≡ true)
-check-sound none true e = (refl, refl)
-check-sound none false e = absurd (let z : _≡_ {A = ℕ} 0 1 = cc in omega arith)
-check-sound (some j) t e = absurd (let z : _≡_ {A = ℕ} 0 1 = cc in omega arith)
+check-sound : (o : Option ℕ) (t : Bool) (k : ℕ) {repaired : ℕ} → checkOf o t k ≡ Sound repaired → (o ≡ none) × (t ≡ true) × (repaired ≡ k)
+check-sound none true k e = (refl, refl, cc)
+check-sound none false k e = absurd (let z : _≡_ {A = ℕ} 0 1 = cc in omega arith)
+check-sound (some j) t k e = absurd (let z : _≡_ {A = ℕ} 0 1 = cc in omega arith)
+
+-- what is known of sound values
+pub check-passed : {cs : List Class} {one two n repaired : ℕ} {c : Check} {row : List ℕ} → Checked cs one two n c row → c ≡ Sound repaired
+    → NoneLost cs one two n × (repaired ≡ repairs cs one two n) × Flagged cs one two n row
+check-passed {cs} {one} {two} {n} h k =
+    let w = check-sound (firstFrom (isLost cs one two) (n + 1) 0) (sumHolds cs one two n) (repairs cs one two n) (sym (h .says) ∙ k) in
+    (λ i l. none-first (isLost cs one two) (n + 1) 0 (w .0) i (omega arith) (omega arith), w .2, h .flagged (w .0))
 
 -- ---- Rules 3 to 5, on copies that were located
 
@@ -80,28 +86,28 @@ module _ (t : Thresholds) (strip : List ℕ) (p n : ℕ) (out : List ℕ) {two :
           let counted = rw second at e in
           let checked = rw second at h in
           refuses (readCopies cs p n) out LostByte
-          (rw (← counted, g, check-lost (firstFrom (isLost cs p q) (n + 1) 0) (sumHolds cs p q n) (sym (checked .says) ∙ k)))
+          (rw (← counted, g, check-lost (firstFrom (isLost cs p q) (n + 1) 0) (sumHolds cs p q n) (repairs cs p q n) (sym (checked .says) ∙ k)))
 
       pub readCopies-wrongChecksum : {r : BlockAnswer} → c ≡ WrongSum → r ≡ Refused (refusalAt WrongChecksum n) → BlockPromise (readCopies cs p n) out r out
       unfolding readCopies
       readCopies-wrongChecksum k =
           let counted = rw second at e in
           let checked = rw second at h in
-          let w = check-wrong (firstFrom (isLost cs p q) (n + 1) 0) (sumHolds cs p q n) (sym (checked .says) ∙ k) in
+          let w = check-wrong (firstFrom (isLost cs p q) (n + 1) 0) (sumHolds cs p q n) (repairs cs p q n) (sym (checked .says) ∙ k) in
           refuses (readCopies cs p n) out WrongChecksum (rw (← counted, g, w .0, w .1))
 
-      pub readCopies-accepted : {end : ℕ} {out′ : List ℕ} → end ≡ endOf p n → n ≤ length out → c ≡ Sound
-          → out′ ≡ sets out 0 (tabulate (pickedAt t strip p two row) n 0)
+      pub readCopies-accepted : {end repaired : ℕ} {out′ : List ℕ} → end ≡ endOf p n → n ≤ length out → c ≡ Sound repaired
+          → out′ ≡ sets out 0 (valuesAt cs p two n)
           → BlockPromise (readCopies cs p n) out (Accepted (record { n = n; start = p; end = end })) out′
       unfolding readCopies
       readCopies-accepted last room k s =
           let counted = rw second at e in
           let checked = rw second at h in
-          let w = check-sound (firstFrom (isLost cs p q) (n + 1) 0) (sumHolds cs p q n) (sym (checked .says) ∙ k) in
+          let w = check-sound (firstFrom (isLost cs p q) (n + 1) 0) (sumHolds cs p q n) (repairs cs p q n) (sym (checked .says) ∙ k) in
           let l : 0 + length (valuesAt cs p q n) ≡ n = zero-add _ ∙ length-tabulate (valueAt cs p q) n 0 in
           let a : readCopies cs p n ≡ accepted (blockAt p n (valuesAt cs p q n)) = rw (← counted, g, w .0, w .1) in
-          let v = picked-values t strip p q n row (w .0) (checked .flags (w .0)) in promise-accepted extentOf payloadOf (readCopies cs p n) out a (rw last refl)
-          (rw second at s ∙ ap (sets out 0) v ∙ put-room out 0 (valuesAt cs p q n) (rw l room))
+          promise-accepted extentOf payloadOf (readCopies cs p n) out a (rw last refl)
+          (rw second at s ∙ put-room out 0 (valuesAt cs p q n) (rw l room))
 
 -- ---- Rule 2
 

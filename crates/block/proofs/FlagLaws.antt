@@ -3,16 +3,15 @@ use Prim.Native.Nat.{ℕ, zero, suc, _+_, _-_, _*_, _/_, _%_, _^_, _≤_, _<_}
 use native.Mathlib.Nat.{pow-suc, zero-div, div-self, div-eq-of-lt, mul-mod-left}
 use native.Mathlib.Decide.{ℕ-discrete, decLt}
 use native.Mathlib.Omega.{arith}
-use mathlib.Core.Path.{_≡_, refl, ap, _∙_}
+use mathlib.Core.Path.{_≡_, refl, sym, ap, _∙_}
 use mathlib.Core.Bool.{true, false}
 use mathlib.Core.List.{List}
 use borrow.Author.Tests.{eq-eqb}
 use lib.Bits.{bitOr, or-shr, or-mod, or-zero-r}
 use lib.Dec.{eqb, lit<}
-use lib.ListN.{length, getD, set, replicate, length-set, List·getD-eq-default}
+use lib.ListN.{length, getD, set, length-set, List·getD-eq-default}
 use lib.Pow.{pow-pos, pow-add, pow-lt, shl-shr, shl-exact}
 use lib.Seq.{set-out, getD-set-same, getD-set-other}
-use Rattle.lists.proofs.Table.{every-at}
 use Rattle.block.specs.private.Flags.{flagAt, raised}
 
 -- ---- The bits of a number
@@ -57,13 +56,13 @@ pub raised-past : (row : List ℕ) (i : ℕ) → length row ≤ i / 8 → raised
 unfolding raised
 raised-past row i h = set-out row (i / 8) _ h
 
-pub raised-same : (row : List ℕ) (i : ℕ) → i / 8 < length row → flagAt (raised row i) i ≡ true
+raised-same : (row : List ℕ) (i : ℕ) → i / 8 < length row → flagAt (raised row i) i ≡ true
 unfolding flagAt raised
 raised-same row i h =
     rw (getD-set-same row (i / 8) (bitOr (getD row (i / 8) 0) (2 ^ (i % 8))) 0 h)
     (eq-eqb _ 1 (or-own (getD row (i / 8) 0) (i % 8)))
 
-pub raised-other : (row : List ℕ) (i j : ℕ) → (i ≡ j → ⊥) → flagAt (raised row i) j ≡ flagAt row j
+raised-other : (row : List ℕ) (i j : ℕ) → (i ≡ j → ⊥) → flagAt (raised row i) j ≡ flagAt row j
 unfolding flagAt raised
 raised-other row i j h = ap (λ v. eqb v 1) (bit (ℕ-discrete (j / 8) (i / 8)) (decLt (i / 8) (length row)))
   where
@@ -79,29 +78,13 @@ raised-other row i j h = ap (λ v. eqb v 1) (bit (ℕ-discrete (j / 8) (i / 8)) 
     bit (yes d) (yes l) = rw (d, getD-set-same row (i / 8) more 0 l) (or-other byte (i % 8) (j % 8) (λ e. h (omega arith)))
     bit (yes d) (no l) = ap (λ xs. getD xs (j / 8) 0 / 2 ^ (j % 8) % 2) (set-out row (i / 8) more (omega arith))
 
--- ---- Flags that are down
-
-getD-zeros : (n i : ℕ) → _≡_ {A = ℕ} (getD (replicate n 0) i 0) 0
-getD-zeros zero i = refl
-getD-zeros (suc n) zero = refl
-getD-zeros (suc n) (suc i) = getD-zeros n i
-
--- a row of zeros
-pub flagAt-zeros : (n j : ℕ) → flagAt (replicate n 0) j ≡ false
-unfolding flagAt
-flagAt-zeros n j = rw (getD-zeros n (j / 8), zero-div (2 ^ (j % 8)))
+-- a flag that is down after flag i is raised is another one, and was down
+pub raised-down : (row : List ℕ) (i j : ℕ) → i / 8 < length row → flagAt (raised row i) j ≡ false → (i ≡ j → ⊥) × (flagAt row j ≡ false)
+raised-down row i j h e =
+    let other : i ≡ j → ⊥ = λ q. (let up = raised-same row i h in let z : _≡_ {A = ℕ} 0 1 = cc in omega arith) in
+    (other, sym (raised-other row i j other) ∙ e)
 
 -- past the row's end none is up
 pub flagAt-past : (row : List ℕ) (i : ℕ) → length row ≤ i / 8 → flagAt row i ≡ false
 unfolding flagAt
 flagAt-past row i h = rw (List·getD-eq-default row 0 h, zero-div (2 ^ (i % 8)))
-
--- a byte of 0 has no flag raised
-pub flagAt-zero : (row : List ℕ) (i : ℕ) → getD row (i / 8) 0 ≡ 0 → flagAt row i ≡ false
-unfolding flagAt
-flagAt-zero row i e = rw (e, zero-div (2 ^ (i % 8)))
-
--- one of ones has all
-pub flagAt-ones : (row : List ℕ) (i : ℕ) → getD row (i / 8) 0 ≡ 255 → flagAt row i ≡ true
-unfolding flagAt
-flagAt-ones row i e = rw e (every-at (λ k. eqb (255 / 2 ^ k % 2) 1) 8 refl (i % 8) (omega arith))

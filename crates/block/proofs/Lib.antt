@@ -2,8 +2,8 @@ mod Countdowns
 mod FlagLaws
 mod ValueLaws
 mod Writing
-mod Repairing
 mod Checking
+mod Filling
 mod Answers
 pub mod BlockLaws
 pub mod ReadingLaws

@@ -21,11 +21,18 @@ ghost use Rattle.byte.specs.Byte.{readFrame, isGood};
 ghost use Rattle.start.specs.Start.{foundAt};
 ghost use Rattle.start.specs.Copies.{copyPulses, copyTwo, endOf};
 ghost use Rattle.block.specs.Reading.{isCounted, isMiscounted, placeAt, readCopies, readAt, BlockPromise};
-ghost use Rattle.block.specs.private.Checks.{readAs, flagged, NoneRaised, Checked};
+ghost use Rattle.block.specs.private.Checks.{placeRead, Checked};
 
-// What rules 4 and 5 say of the values.
+// What rule 4 says of a place: its value is copy one's, or it is copy two's, or it is lost.
+enum PlaceRead {
+    One(u8),
+    Two(u8),
+    Neither,
+}
+
+// What rules 4 and 5 say of the values. Sound ones come with the number of repaired places, the checksum's among them.
 enum Check {
-    Sound,
+    Sound(usize),
     LostAt(usize),
     WrongSum,
 }
@@ -47,7 +54,7 @@ pub fn read_at(t: Thresholds, strip: &[u32], start: usize, n: usize, out: &mut [
     }
 }
 
-// Rules 3 to 5. Nothing is put before all of them hold. A row of flags keeps the places whose value is copy two's.
+// Rules 3 to 5. Nothing is put before all of them hold. A row of flags tells the groups of places in which one is repaired.
 fn read_copies(
     t: Thresholds,
     strip: &[u32],
@@ -68,8 +75,8 @@ fn read_copies(
     match check_values(t, strip, one, two, n, &mut row) {
         Check::LostAt(i) => refused(Reason::LostByte, i),
         Check::WrongSum => refused(Reason::WrongChecksum, n),
-        Check::Sound => {
-            values::fill_values(t, strip, one, two, n, &row, out);
+        Check::Sound(repaired) => {
+            values::fill_values(t, strip, one, two, n, repaired, &row, out);
             BlockAnswer::Accepted(Extent {
                 n,
                 start: one,
@@ -123,29 +130,27 @@ fn first_miscounted(t: Thresholds, strip: &[u32], one: usize, two: usize) -> Fou
     Found::Nothing
 }
 
-// Rule 4 at place i after the countdown: copy one's byte where it is good, else copy two's, and then the place's flag is raised.
-fn read_place(
-    t: Thresholds,
-    strip: &[u32],
-    one: usize,
-    two: usize,
-    i: usize,
-    row: &mut [u8],
-) -> ByteRead
+// Rule 4 at place i after the countdown: copy one's byte where it is good, else copy two's.
+fn read_place(t: Thresholds, strip: &[u32], one: usize, two: usize, i: usize) -> PlaceRead
     requires { ⌜ (one ≤ two) × (two + 20 * (10 + i) ≤ length (now strip)) ⌝ }
-    ensures { λ r. ⌜ (r ≡ readAs (placeAt (classes t (now (strip .entry))) one two i)) × (now (row .exit) ≡ flagged (classes t (now (strip .entry))) one two i (now (row .entry))) ⌝ }
+    ensures { λ r. ⌜ placeRead r ≡ placeAt (classes t (now (strip .entry))) one two i ⌝ }
 {
     let at = byte::BYTE_PULSES * (COUNTDOWN_BYTES + i);
-    let ByteRead::Good(value) = byte::read_frame(t, &strip[one + at..one + at + byte::BYTE_PULSES])
+    let ByteRead::Good(first) = byte::read_frame(t, &strip[one + at..one + at + byte::BYTE_PULSES])
     else {
-        flags::raise_flag(row, i);
-        return byte::read_frame(t, &strip[two + at..two + at + byte::BYTE_PULSES]);
+        let ByteRead::Good(second) = byte::read_frame(
+            t,
+            &strip[two + at..two + at + byte::BYTE_PULSES],
+        ) else {
+            return PlaceRead::Neither;
+        };
+        return PlaceRead::Two(second);
     };
-    ByteRead::Good(value)
+    PlaceRead::One(first)
 }
 
 // Rules 4 and 5: whether a place is lost, and whether the checksum holds for the repaired values. It does exactly where these and the
-// checksum, all XORed, are 0.
+// checksum, all XORed, are 0. A place whose value is copy two's is counted, and the flag of its group is raised.
 fn check_values(
     t: Thresholds,
     strip: &[u32],
@@ -154,20 +159,30 @@ fn check_values(
     n: usize,
     row: &mut [u8],
 ) -> Check
-    requires { ⌜ (one ≤ two) × (two + copyPulses n ≤ length (now strip)) × (n < 8 * length (now row)) × NoneRaised (now row) ⌝ }
+    requires { ⌜ (one ≤ two) × (two + copyPulses n ≤ length (now strip)) × (n < 128 * length (now row)) ⌝ }
     ensures { λ r. ⌜ Checked (classes t (now (strip .entry))) one two n r (now (row .exit)) ⌝ }
 {
     let mut sum: u8 = 0;
+    let mut repaired: usize = 0;
     let mut i: usize = 0;
     while i <= n {
-        let ByteRead::Good(value) = read_place(t, strip, one, two, i, row) else {
-            return Check::LostAt(i);
-        };
-        sum = sum ^ value;
+        match read_place(t, strip, one, two, i) {
+            PlaceRead::One(first) => {
+                sum = sum ^ first;
+            }
+            PlaceRead::Two(second) => {
+                flags::raise_flag(row, i / flags::GROUP_PLACES);
+                repaired = repaired + 1;
+                sum = sum ^ second;
+            }
+            PlaceRead::Neither => {
+                return Check::LostAt(i);
+            }
+        }
         i = i + 1;
     }
     if sum == 0 {
-        Check::Sound
+        Check::Sound(repaired)
     } else {
         Check::WrongSum
     }

@@ -1,19 +1,49 @@
-// The values of a block that passed, taken without another check. What is here is here for speed.
+// The values of a block that passed. In a group without a repaired place no byte is checked again. What is here is here for speed.
 use super::flags;
+use byte::ByteRead;
 use pulse::Cycles;
 use pulse::Thresholds;
 use start::COUNTDOWN_BYTES;
-ghost use Prim.Native.Nat.{_+_, _*_, _≤_};
+ghost use Prim.Native.Nat.{_+_, _-_, _*_, _≤_, _<_};
 ghost use mathlib.Core.Path.{_≡_};
+ghost use mathlib.Core.Bool.{false};
 ghost use lib.ListN.{length};
 ghost use lib.Seq.{sets};
 ghost use Rattle.lists.specs.Places.{tabulate};
+ghost use Rattle.pulse.specs.Pulse.{classes};
 ghost use Rattle.start.specs.Copies.{copyPulses};
-ghost use Rattle.block.specs.private.Values.{bitsAt};
-ghost use Rattle.block.specs.private.Checks.{soundAt, repairedAt, pickedAt};
+ghost use Rattle.block.specs.Reading.{isLost, valueAt, valuesAt};
+ghost use Rattle.block.specs.private.Values.{bitsAt, bitsOf};
+ghost use Rattle.block.specs.private.Checks.{repairs, Flagged, SameFlags, NoneLost};
 
-// Puts the values of a block that passed, from copy two where a place's flag is raised and from copy one elsewhere. No byte is checked.
+// Puts the values of a block that passed, from one copy alone where no place or every place is repaired.
 pub fn fill_values(
+    t: Thresholds,
+    strip: &[u32],
+    one: usize,
+    two: usize,
+    n: usize,
+    repaired: usize,
+    row: &[u8],
+    out: &mut [u8],
+)
+    requires { ⌜ (one ≤ two) × (two + copyPulses n ≤ length (now strip)) × (n ≤ length (now out)) ⌝ }
+    requires { ⌜ NoneLost (classes t (now strip)) one two n × (repaired ≡ repairs (classes t (now strip)) one two n) × Flagged (classes t (now strip)) one two n (now row) ⌝ }
+    ensures { λ _. ⌜ now (out .exit) ≡ sets (now (out .entry)) 0 (valuesAt (classes t (now (strip .entry))) one two n) ⌝ }
+{
+    if repaired == 0 {
+        fill_copy(t, strip, one, 0, n, out);
+        return;
+    }
+    if n < repaired {
+        fill_copy(t, strip, two, 0, n, out);
+        return;
+    }
+    fill_runs(t, strip, one, two, n, row, out);
+}
+
+// Puts the values run by run. In a run whose flags are down they are copy one's bits.
+fn fill_runs(
     t: Thresholds,
     strip: &[u32],
     one: usize,
@@ -23,47 +53,84 @@ pub fn fill_values(
     out: &mut [u8],
 )
     requires { ⌜ (one ≤ two) × (two + copyPulses n ≤ length (now strip)) × (n ≤ length (now out)) ⌝ }
-    ensures { λ _. ⌜ now (out .exit) ≡ sets (now (out .entry)) 0 (tabulate (pickedAt t (now (strip .entry)) one two (now (row .entry))) n 0) ⌝ }
-{
-    let at = byte::BYTE_PULSES * COUNTDOWN_BYTES;
-    if flags::all_raised(row, n) {
-        fill_copy(t, strip, two + at, n, out);
-        return;
-    }
-    fill_copy(t, strip, one + at, n, out);
-    repair(t, strip, two + at, n, row, out);
-}
-
-// The bits of n bytes of one copy, from an index on.
-fn fill_copy(t: Thresholds, strip: &[u32], at: usize, n: usize, out: &mut [u8])
-    requires { ⌜ (at + 20 * n ≤ length (now strip)) × (n ≤ length (now out)) ⌝ }
-    ensures { λ _. ⌜ now (out .exit) ≡ sets (now (out .entry)) 0 (tabulate (soundAt t (now (strip .entry)) at) n 0) ⌝ }
+    requires { ⌜ NoneLost (classes t (now strip)) one two n × Flagged (classes t (now strip)) one two n (now row) ⌝ }
+    ensures { λ _. ⌜ now (out .exit) ≡ sets (now (out .entry)) 0 (valuesAt (classes t (now (strip .entry))) one two n) ⌝ }
 {
     let mut i: usize = 0;
     while i < n {
-        let value = bits_at(t, strip, at + byte::BYTE_PULSES * i);
+        let end = run_end(row, i, n);
+        if flags::flag(row, i / flags::GROUP_PLACES) {
+            fill_places(t, strip, one, two, i, end, out);
+        } else {
+            fill_copy(t, strip, one, i, end, out);
+        }
+        i = end;
+    }
+}
+
+// The end of the run from place i on: the first place whose group has another flag, or n.
+fn run_end(row: &[u8], i: usize, n: usize) -> usize
+    requires { ⌜ i < n ⌝ }
+    ensures { λ r. ⌜ (i < r) × (r ≤ n) × SameFlags (now (row .entry)) i r ⌝ }
+{
+    let up = flags::flag(row, i / flags::GROUP_PLACES);
+    let last = (n - 1) / flags::GROUP_PLACES;
+    let mut group = i / flags::GROUP_PLACES + 1;
+    while group <= last {
+        if flags::flag(row, group) != up {
+            return flags::GROUP_PLACES * group;
+        }
+        group = group + 1;
+    }
+    n
+}
+
+// Puts the bits of one copy's bytes, from place `from` to before `end`. No byte is checked.
+fn fill_copy(t: Thresholds, strip: &[u32], copy: usize, from: usize, end: usize, out: &mut [u8])
+    requires { ⌜ (from ≤ end) × (copy + 20 * (9 + end) ≤ length (now strip)) × (end ≤ length (now out)) ⌝ }
+    ensures { λ _. ⌜ now (out .exit) ≡ sets (now (out .entry)) from (tabulate (bitsOf t (now (strip .entry)) copy) (end - from) from) ⌝ }
+{
+    let mut i: usize = from;
+    while i < end {
+        let value = bits_at(t, strip, copy + byte::BYTE_PULSES * (COUNTDOWN_BYTES + i));
         out[i] = value;
         i = i + 1;
     }
 }
 
-// Puts the bits of the bytes whose flag is raised, from the copy that begins at an index.
-fn repair(t: Thresholds, strip: &[u32], at: usize, n: usize, row: &[u8], out: &mut [u8])
-    requires { ⌜ (at + 20 * n ≤ length (now strip)) × (n ≤ length (now out)) ⌝ }
-    ensures { λ _. ⌜ now (out .exit) ≡ sets (now (out .entry)) 0 (tabulate (repairedAt t (now (strip .entry)) at (now (row .entry)) (now (out .entry))) n 0) ⌝ }
+// Puts the values from place `from` to before `end`. Copy one's bytes are checked again.
+fn fill_places(
+    t: Thresholds,
+    strip: &[u32],
+    one: usize,
+    two: usize,
+    from: usize,
+    end: usize,
+    out: &mut [u8],
+)
+    requires { ⌜ (from ≤ end) × (one ≤ two) × (two + 20 * (9 + end) ≤ length (now strip)) × (end ≤ length (now out)) ⌝ }
+    requires { ⌜ NoneLost (classes t (now strip)) one two end ⌝ }
+    ensures { λ _. ⌜ now (out .exit) ≡ sets (now (out .entry)) from (tabulate (valueAt (classes t (now (strip .entry))) one two) (end - from) from) ⌝ }
 {
-    let mut i: usize = 0;
-    while i < n {
-        if flags::none_of_eight(row, i) {
-            i = i + flags::BYTE_FLAGS;
-        } else {
-            if flags::flag(row, i) {
-                let second = bits_at(t, strip, at + byte::BYTE_PULSES * i);
-                out[i] = second;
-            }
-            i = i + 1;
-        }
+    let mut i: usize = from;
+    while i < end {
+        let value = value_at(t, strip, one, two, i);
+        out[i] = value;
+        i = i + 1;
     }
+}
+
+// The value of a place that is not lost: copy one's byte where it is good, else copy two's bits.
+fn value_at(t: Thresholds, strip: &[u32], one: usize, two: usize, i: usize) -> u8
+    requires { ⌜ (one ≤ two) × (two + 20 * (10 + i) ≤ length (now strip)) × (isLost (classes t (now strip)) one two i ≡ false) ⌝ }
+    ensures { λ r. ⌜ r ≡ valueAt (classes t (now (strip .entry))) one two i ⌝ }
+{
+    let at = byte::BYTE_PULSES * (COUNTDOWN_BYTES + i);
+    let ByteRead::Good(value) = byte::read_frame(t, &strip[one + at..one + at + byte::BYTE_PULSES])
+    else {
+        return bits_at(t, strip, two + at);
+    };
+    value
 }
 
 // The value of a byte that is known to be good, by the first pulse of each bit's pair: 1 where that is not below the medium threshold.

@@ -1,5 +1,5 @@
 -- Laws of bytes: reading undoes writing, and a good byte is the byte as written.
-use Prim.Native.Nat.{ℕ, zero, suc, _+_, _*_, _/_, _%_, _≤_, _<_}
+use Prim.Native.Nat.{ℕ, zero, suc, _+_, _-_, _*_, _/_, _%_, _≤_, _<_}
 use native.Mathlib.Nat.{add-zero}
 use native.Mathlib.Numerals.{add-one, add-two}
 use native.Mathlib.Decide.{decLe}
@@ -187,9 +187,10 @@ module _ (cs : List Class) (p : ℕ) where
   ]
 
 -- the frame from a place of a strip on, cut out of it
-pub readFrame-part : (t : Thresholds) (strip : List ℕ) (at count : ℕ) → count ≡ 20 → at + 20 ≤ length strip
-    → readFrame (classes t (part strip at count)) ≡ byteAt (classes t strip) at
+pub readFrame-part : (t : Thresholds) (strip : List ℕ) (at : ℕ) → at + 20 ≤ length strip
+    → readFrame (classes t (part strip at (at + 20 - at))) ≡ byteAt (classes t strip) at
 unfolding readFrame byteAt
-readFrame-part t strip at count e h =
+readFrame-part t strip at h =
+    let e : at + 20 - at ≡ 20 = omega arith in
     let n : length (part strip at 20) ≡ 20 = simp (length-take, length-drop) (omega arith) in
     rw (e, length-map (part strip at 20) (classOf t), eq-eqb (length (part strip at 20)) 20 n) (ap byteOf (sym (part-map (classOf t) strip at 20)))

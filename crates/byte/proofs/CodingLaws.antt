@@ -22,7 +22,7 @@ coded-append [] es = refl
 coded-append (zero ∷ ds) es = ap (λ (cs : List Class). Short ∷ Medium ∷ cs) (coded-append ds es)
 coded-append (suc d ∷ ds) es = ap (λ (cs : List Class). Medium ∷ Short ∷ cs) (coded-append ds es)
 
-pub length-coded : (ds : List ℕ) → length (coded ds) ≡ 2 * length ds
+length-coded : (ds : List ℕ) → length (coded ds) ≡ 2 * length ds
 unfolding coded
 length-coded [] = refl
 length-coded (zero ∷ ds) = let r = length-coded ds in omega arith
@@ -36,10 +36,13 @@ coded-noNoise (suc d ∷ ds) = noNoise-cons Medium (Short ∷ coded ds) refl (no
 
 -- ---- bits
 
-pub length-bits : (k v : ℕ) → length (bits k v) ≡ k
+length-bits : (k v : ℕ) → length (bits k v) ≡ k
 unfolding bits
 length-bits zero v = refl
 length-bits (suc k) v = ap suc (length-bits k _)
+
+pub length-codedBits : (k v : ℕ) → length (coded (bits k v)) ≡ 2 * k
+length-codedBits k v = length-coded (bits k v) ∙ ap (λ n. 2 * n) (length-bits k v)
 
 -- ---- byteClasses
 

@@ -1,6 +1,6 @@
 mod Parity
 pub mod PairLaws
-mod NibbleLaws
+mod QuarterLaws
 pub mod Stores
 pub mod CodingLaws
 pub mod ByteLaws

@@ -1,5 +1,5 @@
 -- The pulses of bytes, stored one part after the other.
-use Prim.Native.Nat.{ℕ, zero, suc, _+_, _*_, _/_, _%_, _≤_, _<_}
+use Prim.Native.Nat.{ℕ, zero, suc, _+_, _*_, _≤_, _<_}
 use native.Mathlib.Numerals.{add-one}
 use native.Mathlib.Omega.{arith}
 use mathlib.Core.Path.{_≡_, refl, sym, ap, _∙_}
@@ -22,9 +22,7 @@ use Rattle.pulse.specs.declared.Class.the-variants.{Short, Medium, Long}
 use Rattle.pulse.specs.Pulse.{writtenAs, pulses}
 use Rattle.pulse.proofs.PulseLaws.{put-pulses}
 use Rattle.byte.specs.Byte.{bits, parityBit, coded, byteClasses, bytePulses, bytesClasses, bytesPulses, writeBytes}
-use Rattle.byte.specs.private.Nibbles.{nibble}
-use Rattle.byte.proofs.CodingLaws.{coded-append, length-coded, length-bits, length-bytePulses, length-bytesPulses}
-use Rattle.byte.proofs.NibbleLaws.{bits-put}
+use Rattle.byte.proofs.CodingLaws.{coded-append, length-codedBits, length-bytePulses, length-bytesPulses}
 
 -- ---- A bit
 
@@ -37,22 +35,21 @@ unfolding coded
 coded-one zero h = absurd (h refl)
 coded-one (suc d) h = refl
 
--- ---- A byte: the marker, the eight bits in two nibbles, the parity bit
+-- ---- A byte: the marker, the eight bits, the parity bit
 
-pub byte-put : (out : List ℕ) (at b : ℕ) {one two three four : List ℕ} {parity : ℕ} → b < 256
-    → one ≡ sets out at (pulses (Long ∷ Medium ∷ [])) → two ≡ sets one (at + 2) (nibble (b % 16)) → three ≡ sets two (at + 10) (nibble (b / 16))
-    → parity ≡ parityBit b → four ≡ sets three (at + 18) (pulses (coded (parity ∷ []))) → four ≡ sets out at (bytePulses b)
+pub byte-put : (out : List ℕ) (at b : ℕ) {one two three : List ℕ} {parity : ℕ}
+    → one ≡ sets out at (pulses (Long ∷ Medium ∷ [])) → two ≡ sets one (at + 2) (pulses (coded (bits 8 b)))
+    → parity ≡ parityBit b → three ≡ sets two (at + 18) (pulses (coded (parity ∷ []))) → three ≡ sets out at (bytePulses b)
 unfolding byteClasses
-byte-put out at b {one} h e f f′ p g =
+byte-put out at b e f p g =
     let marker = Long ∷ Medium ∷ [] in
     let eight = coded (bits 8 b) in
     let ninth = coded (parityBit b ∷ []) in
     let w : byteClasses b ≡ marker ++ (eight ++ ninth) = ap (λ (cs : List Class). Long ∷ Medium ∷ cs) (coded-append (bits 8 b) (parityBit b ∷ [])) in
-    let second : at + 10 ≡ at + 2 + 8 = omega arith in
     let last : at + 18 ≡ at + 2 + 2 * 8 = omega arith in
     let u₀ = put-begun out at at (bytePulses b) (pulses (marker ++ (eight ++ ninth))) refl (ap pulses (sym w)) in
     let u₁ = put-pulses marker (eight ++ ninth) u₀ e refl refl in
-    let u₂ = put-pulses eight ninth u₁ (bits-put one (at + 2) b h f (rw second at f′)) (length-coded (bits 8 b) ∙ ap (λ k. 2 * k) (length-bits 8 b)) last in
+    let u₂ = put-pulses eight ninth u₁ f (length-codedBits 8 b) last in
     let u₃ = put-next u₂ (pulses ninth) [] (sym (append-nil (pulses ninth))) (rw p at g) refl in
     put-done u₃ refl
 

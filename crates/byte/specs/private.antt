@@ -1,3 +1,3 @@
 -- What the crate's own functions come to. No promise to a caller cites these.
 pub mod Frame
-pub mod Nibbles
+pub mod Quarters

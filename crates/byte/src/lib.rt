@@ -5,23 +5,19 @@
 //          marker   bit 0   1     2     3     4     5     6     7    parity
 //            L M    each bit: 0 is S M, 1 is M S
 mod decoder;
+mod write;
 
 use decoder::Bounds;
-use pulse::Class;
 use pulse::Cycles;
 use pulse::Thresholds;
 use refusal::Put;
 use refusal::Reason;
-ghost use Prim.Native.Nat.{_+_, _≤_, _<_};
 ghost use mathlib.Core.Path.{_≡_};
-ghost use mathlib.Core.List.{[], _∷_};
 ghost use lib.ListN.{length};
-ghost use lib.Seq.{sets};
 ghost use Rattle.refusal.specs.Promise.{Written};
-ghost use Rattle.pulse.specs.Pulse.{classOf, classes, pulses};
-ghost use Rattle.byte.specs.Byte.{isOdd, parityBit, coded, bytePulses, writeBytes, byteAt, readFrame, pairFits};
+ghost use Rattle.pulse.specs.Pulse.{classOf, classes};
+ghost use Rattle.byte.specs.Byte.{isOdd, parityBit, writeBytes, byteAt, readFrame, pairFits};
 ghost use Rattle.byte.specs.private.Frame.{codeOf};
-ghost use Rattle.byte.specs.private.Nibbles.{nibble, nibbles};
 
 // What twenty pulses are.
 pub enum ByteRead {
@@ -36,16 +32,6 @@ pub const PAIRS: usize = 10;
 pub const BYTE_PULSES: usize = PAIR_PULSES * PAIRS;
 
 pub const BITS: usize = 8;
-
-// Of half of a byte's bits, how many values there are and how many pulses.
-const NIBBLES: usize = 16;
-
-const NIBBLE_PULSES: usize = PAIR_PULSES * BITS / 2;
-
-// Where the second half of the bits and the parity pair stand.
-const SECOND_AT: usize = PAIR_PULSES + NIBBLE_PULSES;
-
-const PARITY_AT: usize = PAIR_PULSES * (1 + BITS);
 
 // The place values of the first bit and of the parity bit among a decoder's bits, and how many values a byte has.
 const FIRST: u32 = 2;
@@ -97,10 +83,10 @@ pub fn write_bytes(values: &[u8], out: &mut [u32]) -> Put
     if out.len() / BYTE_PULSES < values.len() {
         return Put::Refused(refusal::at(Reason::NoRoom, 0));
     }
-    let table = NIBBLE_TABLE;
+    let table = write::QUARTER_TABLE;
     let mut i: usize = 0;
     while i < values.len() {
-        put_twenty(out, BYTE_PULSES * i, &table, values[i]);
+        write::put_twenty(out, BYTE_PULSES * i, &table, values[i]);
         i = i + 1;
     }
     Put::Count(BYTE_PULSES * values.len())
@@ -125,74 +111,3 @@ fn parity_bit(b: u8) -> u8
 {
     if is_odd(u8::count_ones(b)) { 0 } else { 1 }
 }
-
-fn put_pair(out: &mut [u32], at: usize, first: Class, second: Class)
-    requires { ⌜ at + 2 ≤ length (now out) ⌝ }
-    ensures { λ _. ⌜ now (out .exit) ≡ sets (now (out .entry)) at (pulses (first ∷ second ∷ [])) ⌝ }
-{
-    let one = pulse::written_as(first);
-    let two = pulse::written_as(second);
-    out[at] = one.0;
-    out[at + 1] = two.0;
-}
-
-fn put_bit(out: &mut [u32], at: usize, bit: u8)
-    requires { ⌜ at + 2 ≤ length (now out) ⌝ }
-    ensures { λ _. ⌜ now (out .exit) ≡ sets (now (out .entry)) at (pulses (coded (bit ∷ []))) ⌝ }
-{
-    if bit == 0 {
-        put_pair(out, at, Class::Short, Class::Medium);
-    } else {
-        put_pair(out, at, Class::Medium, Class::Short);
-    }
-}
-
-// Puts one byte.
-fn put_twenty(out: &mut [u32], at: usize, table: &[[u32; NIBBLE_PULSES]; NIBBLES], b: u8)
-    requires room { ⌜ at + 20 ≤ length (now out) ⌝ }
-    requires rows { ⌜ now table ≡ nibbles ⌝ }
-    ensures { λ _. ⌜ now (out .exit) ≡ sets (now (out .entry)) at (bytePulses b) ⌝ }
-{
-    let n = b as usize;
-    put_pair(out, at, Class::Long, Class::Medium);
-    put_nibble(out, at + PAIR_PULSES, table, n % NIBBLES);
-    put_nibble(out, at + SECOND_AT, table, n / NIBBLES);
-    put_bit(out, at + PARITY_AT, parity_bit(b));
-}
-
-// Puts four bits.
-fn put_nibble(out: &mut [u32], at: usize, table: &[[u32; NIBBLE_PULSES]; NIBBLES], n: usize)
-    requires room { ⌜ (n < 16) × (at + 8 ≤ length (now out)) ⌝ }
-    requires rows { ⌜ now table ≡ nibbles ⌝ }
-    ensures { λ _. ⌜ now (out .exit) ≡ sets (now (out .entry)) at (nibble n) ⌝ }
-{
-    let mut i: usize = 0;
-    while i < NIBBLE_PULSES {
-        out[at + i] = table[n][i];
-        i = i + 1;
-    }
-}
-
-const S: u32 = pulse::SHORT_CYCLES.0;
-
-const M: u32 = pulse::MEDIUM_CYCLES.0;
-
-// The pulses of four bits, by the number that these are. Each use of the name makes the table anew, so it is used before a loop.
-const NIBBLE_TABLE: [[u32; NIBBLE_PULSES]; NIBBLES] = [
-    [S, M, S, M, S, M, S, M],
-    [M, S, S, M, S, M, S, M],
-    [S, M, M, S, S, M, S, M],
-    [M, S, M, S, S, M, S, M],
-    [S, M, S, M, M, S, S, M],
-    [M, S, S, M, M, S, S, M],
-    [S, M, M, S, M, S, S, M],
-    [M, S, M, S, M, S, S, M],
-    [S, M, S, M, S, M, M, S],
-    [M, S, S, M, S, M, M, S],
-    [S, M, M, S, S, M, M, S],
-    [M, S, M, S, S, M, M, S],
-    [S, M, S, M, M, S, M, S],
-    [M, S, S, M, M, S, M, S],
-    [S, M, M, S, M, S, M, S],
-    [M, S, M, S, M, S, M, S],
-];

@@ -1,16 +1,15 @@
 -- Laws of `putAt`, and of the stores that it is made of.
-use Prim.Native.Nat.{ℕ, zero, suc, _+_, _-_, _≤_, _<_}
+use Prim.Native.Nat.{ℕ, suc, _+_, _-_, _≤_, _<_}
 use native.Mathlib.Nat.{zero-add, add-zero, add-suc, suc-add}
 use native.Mathlib.Decide.{decLe}
 use native.Mathlib.Omega.{arith}
 use mathlib.Core.Path.{_≡_, refl, sym, ap, _∙_}
 use mathlib.Core.List.{List, [], _∷_, _++_, append-assoc, append-nil}
 use borrow.Author.Tests.{le-leb, lt-leb}
-use lib.ListN.{length, take, drop, getD, set, length-append, length-drop, drop-of-length-le, List·getD-append}
-use lib.Seq.{length-take-le, take-append-seam, drop-append-seam, take-at, drop-at, drop-drop, take-all, set-out, sets, length-sets, sets-eq}
-use Rattle.lists.specs.Places.{part, tabulate}
+use lib.ListN.{length, take, drop, set, length-append, length-drop, drop-of-length-le}
+use lib.Seq.{length-take-le, take-append-seam, drop-append-seam, take-at, drop-at, drop-drop, take-all, sets, length-sets, sets-eq}
+use Rattle.lists.specs.Places.{part}
 use Rattle.lists.specs.Buffer.{putAt}
-use Rattle.lists.proofs.PlaceLaws.{length-tabulate, getD-tabulate}
 
 -- where there is room, the values are stored one after the other
 pub put-room : (buffer : List ℕ) (at : ℕ) (values : List ℕ) → at + length values ≤ length buffer → sets buffer at values ≡ putAt buffer at values
@@ -93,29 +92,3 @@ sets-lent buffer values at h e =
 pub sets-append : (xs ys buffer : List ℕ) (at : ℕ) → sets buffer at (xs ++ ys) ≡ sets (sets buffer at xs) (at + length xs) ys
 sets-append [] ys buffer at = rw add-zero
 sets-append (x ∷ xs) ys buffer at = sets-append xs ys (set buffer at x) (suc at) ∙ rw (add-suc, suc-add)
-
--- values over others, as many
-pub sets-over : (buffer xs ys : List ℕ) → length xs ≡ length ys → length xs ≤ length buffer → sets (sets buffer 0 xs) 0 ys ≡ sets buffer 0 ys
-sets-over buffer xs ys e h =
-    let long : length (putAt buffer 0 xs) ≡ length buffer = length-put buffer 0 xs in
-    ap (λ b. sets b 0 ys) (put-room buffer 0 xs (omega arith))
-    ∙ put-room (putAt buffer 0 xs) 0 ys (omega arith)
-    ∙ put-front (putAt buffer 0 xs) ys (omega arith)
-    ∙ ap (λ b. ys ++ b) (rest-front buffer xs (length ys) e (omega arith))
-    ∙ sym (put-front buffer ys (omega arith))
-    ∙ sym (put-room buffer 0 ys (omega arith))
-
--- what stands at a place of a table that was put
-pub getD-table : (f : ℕ → ℕ) (n : ℕ) (buffer : List ℕ) (i : ℕ) → i < n → n ≤ length buffer → getD (sets buffer 0 (tabulate f n 0)) i 0 ≡ f i
-getD-table f n buffer i h room =
-    let long : length (tabulate f n 0) ≡ n = length-tabulate f n 0 in
-    ap (λ b. getD b i 0) (put-room buffer 0 (tabulate f n 0) (omega arith) ∙ put-front buffer (tabulate f n 0) (omega arith))
-    ∙ List·getD-append (tabulate f n 0) (drop (length (tabulate f n 0)) buffer) 0 i (omega arith)
-    ∙ getD-tabulate f n 0 i h
-    ∙ ap f (zero-add i)
-
--- a value that stands there already
-pub set-own : (xs : List ℕ) (i : ℕ) → set xs i (getD xs i 0) ≡ xs
-set-own [] i = set-out [] i 0 (omega arith)
-set-own (x ∷ xs) zero = refl
-set-own (x ∷ xs) (suc i) = ap (λ ys. x ∷ ys) (set-own xs i)

@@ -10,6 +10,7 @@ use mathlib.Core.Option.{Option, none, some}
 use lib.ListN.{length, drop, getD, set}
 use lib.Seq.{sets, length-sets, drop-cons}
 use Rattle.lists.specs.Places.{firstFrom, tabulate}
+use Rattle.lists.proofs.PlaceLaws.{tabulate-append}
 use Rattle.lists.proofs.BufferLaws.{sets-append}
 
 -- ---- A search through the numbers below n
@@ -48,6 +49,13 @@ module _ (f : ℕ → ℕ) (n : ℕ) where
   pub table-next : (i : ℕ) → i < n → tableLeft i ≡ f i ∷ tableLeft (i + 1)
   unfolding tabulate
   table-next i h = let s : n - i ≡ suc (n - (i + 1)) = omega arith in rw (s, add-one)
+
+  -- a part of them, up to j
+  pub table-part : (i j : ℕ) → i ≤ j → j ≤ n → tableLeft i ≡ tabulate f (j - i) i ++ tableLeft j
+  table-part i j h l =
+      let s : n - i ≡ j - i + (n - j) = omega arith in
+      let e : i + (j - i) ≡ j = omega arith in
+      ap (λ k. tabulate f k i) s ∙ tabulate-append f (j - i) (n - j) i ∙ ap (λ k. tabulate f (j - i) i ++ tabulate f (n - j) k) e
 
   pub table-over : (i : ℕ) → n ≤ i → tableLeft i ≡ []
   unfolding tabulate

@@ -1,7 +1,7 @@
 -- Laws of `firstFrom` and `tabulate`.
 use Prim.Native.Nat.{ℕ, zero, suc, _+_, _≤_, _<_}
 use native.Mathlib.Omega.{arith}
-use native.Mathlib.Nat.{add-zero}
+use native.Mathlib.Nat.{zero-add, add-zero, suc-add}
 use native.Mathlib.Decide.{ℕ-discrete}
 use mathlib.Core.Path.{_≡_, refl, ap, ap₂, _∙_}
 use mathlib.Core.Bool.{Bool, true, false, cond}
@@ -84,6 +84,14 @@ tabulate-snoc f zero at = rw add-zero
 tabulate-snoc f (suc count) at =
     let e : at + suc count ≡ suc at + count = omega arith in
     rw (e, ← (tabulate-snoc f count (suc at)))
+
+-- in two parts
+pub tabulate-append : (f : ℕ → ℕ) (count more at : ℕ) → tabulate f (count + more) at ≡ tabulate f count at ++ tabulate f more (at + count)
+unfolding tabulate
+tabulate-append f zero more at = rw (zero-add, add-zero)
+tabulate-append f (suc count) more at =
+    let e : at + suc count ≡ suc at + count = omega arith in
+    rw (suc-add, e) (ap (λ xs. f at ∷ xs) (tabulate-append f count more (suc at)))
 
 -- two functions that agree at these places make the same list
 pub tabulate-same : (f g : ℕ → ℕ) (count at : ℕ) → ((i : ℕ) → at ≤ i → i < at + count → f i ≡ g i) → tabulate f count at ≡ tabulate g count at

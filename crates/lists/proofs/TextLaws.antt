@@ -65,7 +65,7 @@ module _ (bytes : List ℕ) (at n : ℕ) where
 
 -- ---- equal
 
-pub equal-same : (xs ys : List ℕ) → equal xs ys ≡ true → xs ≡ ys
+equal-same : (xs ys : List ℕ) → equal xs ys ≡ true → xs ≡ ys
 unfolding equal
 equal-same [] [] e = refl
 equal-same [] (y ∷ ys) e = absurd (let z : _≡_ {A = ℕ} 0 1 = cc in omega arith)

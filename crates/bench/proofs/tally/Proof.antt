@@ -1,5 +1,5 @@
 -- `bench::tally` meets its contract. The loop's invariant: the tally so far, with the bytes that are left, gives the whole.
-use Prim.Native.Nat.{_+_, _-_, _*_, _/_, _≤_}
+use Prim.Native.Nat.{_-_, _*_, _/_, _≤_}
 use native.Mathlib.Omega.{arith}
 use mathlib.Core.Path.{_≡_, sym, _∙_}
 use mathlib.Core.Logic.{⊎-elim}
@@ -69,7 +69,7 @@ loop-again c =
     let args = c .before .before .before .before .before .before .args in
     let pulses = args .pulses .now in
     let tally : BenchTally = record { good = loop .good; xor = loop .xor } in
-    let frame = readFrame-part (args .t) pulses (20 * loop .i) _ (let z : 20 * loop .i + 20 - 20 * loop .i ≡ 20 = omega arith in z) (omega arith) in
+    let frame = readFrame-part (args .t) pulses (20 * loop .i) (omega arith) in
     let next = tally-next (classes (args .t) pulses) (length pulses / 20) tally (loop .i) (omega arith) (c .before .read-frame .ensures ∙ frame) in
     let whole = next ∙ loop .inv .1 .1 in
     ⊎-elim

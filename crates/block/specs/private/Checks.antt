@@ -1,66 +1,63 @@
--- What the reader's own enums and its row of flags stand for.
-use Prim.Native.Nat.{ℕ, _+_, _<_}
+-- What the reader's own enums stand for, and what it keeps of the places whose value is copy two's.
+use Prim.Native.Nat.{ℕ, zero, suc, _+_, _≤_, _<_}
 use mathlib.Core.Path.{_≡_}
 use mathlib.Core.Bool.{Bool, true, false, cond}
 use mathlib.Core.List.{List}
 use mathlib.Core.Option.{Option, none, some}
-use lib.ListN.{getD}
 use Rattle.lists.specs.Places.{firstFrom}
-use Rattle.pulse.specs.declared.Thresholds.{Thresholds}
 use Rattle.pulse.specs.declared.Class.{Class}
-use Rattle.byte.specs.declared.ByteRead.{ByteRead}
-use Rattle.byte.specs.declared.ByteRead.the-variants.{Good, Bad}
-use Rattle.start.specs.Copies.{bytePlace}
 use Rattle.block.specs.declared.rules.Check.{Check}
 use Rattle.block.specs.declared.rules.Check.the-variants.{Sound, LostAt, WrongSum}
+use Rattle.block.specs.declared.rules.PlaceRead.{PlaceRead}
+use Rattle.block.specs.declared.rules.PlaceRead.the-variants.{One, Two, Neither}
 use Rattle.block.specs.Reading.{Place, FromOne, FromTwo, Lost, isLost, sumHolds, placeAt}
-use Rattle.block.specs.private.Values.{bitsAt}
-use Rattle.block.specs.private.Flags.{flagAt, raised}
+use Rattle.block.specs.private.Flags.{flagAt, groupOf}
 
--- the first lost place, if there is one; else whether the checksum holds
-abbrev pub checkOf : Option ℕ → Bool → Check
-checkOf (some place) holds = LostAt place
-checkOf none true = Sound
-checkOf none false = WrongSum
+-- the first lost place, if there is one; else whether the checksum holds, with the number of repaired places
+abbrev pub checkOf : Option ℕ → Bool → (repaired : ℕ) → Check
+checkOf (some place) holds repaired = LostAt place
+checkOf none true repaired = Sound repaired
+checkOf none false repaired = WrongSum
 
--- the byte that a place is read as, whichever copy it is from
-abbrev pub readAs : Place → ByteRead
-readAs (FromOne v) = Good v
-readAs (FromTwo v) = Good v
-readAs Lost = Bad
+-- the place that was read
+abbrev pub placeRead : PlaceRead → Place
+placeRead (One v) = FromOne v
+placeRead (Two v) = FromTwo v
+placeRead Neither = Lost
 
--- ---- The flags: raised at the places whose value is not copy one's
+-- ---- What is kept: the number of repaired places, and a flag for each group that has one
 
-abbrev pub notFromOne : Place → Bool
-notFromOne (FromOne v) = false
-notFromOne (FromTwo v) = true
-notFromOne Lost = true
+-- the value is copy two's
+abbrev pub isFromTwo : Place → Bool
+isFromTwo (FromOne v) = false
+isFromTwo (FromTwo v) = true
+isFromTwo Lost = false
 
--- no flag is raised
-abbrev pub NoneRaised : (row : List ℕ) → Type 0
-NoneRaised row = (i : ℕ) → flagAt row i ≡ false
+abbrev pub isRepaired : (cs : List Class) (one two i : ℕ) → Bool
+isRepaired cs one two i = isFromTwo (placeAt cs one two i)
 
--- the row after place i
-abbrev pub flagged : (cs : List Class) (one two i : ℕ) (row : List ℕ) → List ℕ
-flagged cs one two i row = cond (notFromOne (placeAt cs one two i)) (raised row i) row
+-- how many of the numbers below n pass a test
+unfoldable pub countBelow : (ℕ → Bool) → ℕ → ℕ
+countBelow f zero = 0
+countBelow f (suc n) = cond (f n) 1 0 + countBelow f n
 
--- the row tells the places below n
-abbrev pub Flags : (cs : List Class) (one two n : ℕ) (row : List ℕ) → Type 0
-Flags cs one two n row = (i : ℕ) → i < n → flagAt row i ≡ notFromOne (placeAt cs one two i)
+-- how many of the n + 1 places, the checksum's among them, are repaired
+abbrev pub repairs : (cs : List Class) (one two n : ℕ) → ℕ
+repairs cs one two n = countBelow (isRepaired cs one two) (n + 1)
+
+-- where the flag of its group is down, a place below n is not repaired
+abbrev pub Flagged : (cs : List Class) (one two n : ℕ) (row : List ℕ) → Type 0
+Flagged cs one two n row = (i : ℕ) → i < n → flagAt row (groupOf i) ≡ false → isRepaired cs one two i ≡ false
+
+-- the flags of the groups from place i to before `end` are all as that of the first
+abbrev pub SameFlags : (row : List ℕ) (i end : ℕ) → Type 0
+SameFlags row i end = (j : ℕ) → i ≤ j → j < end → flagAt row (groupOf j) ≡ flagAt row (groupOf i)
+
+-- no place below n is lost
+abbrev pub NoneLost : (cs : List Class) (one two n : ℕ) → Type 0
+NoneLost cs one two n = (i : ℕ) → i < n → isLost cs one two i ≡ false
 
 -- what rules 4 and 5 say, and the row where no place is lost
 pub record Checked (cs : List Class) (one two n : ℕ) (check : Check) (row : List ℕ) : Type 0 where
-  pub says : check ≡ checkOf (firstFrom (isLost cs one two) (n + 1) 0) (sumHolds cs one two n)
-  pub flags : firstFrom (isLost cs one two) (n + 1) 0 ≡ none → Flags cs one two n row
-
--- the bits of byte i after an index
-abbrev pub soundAt : (t : Thresholds) (strip : List ℕ) (at i : ℕ) → ℕ
-soundAt t strip at i = bitsAt t strip (bytePlace at i)
-
--- the same where flag i is raised, else what a buffer holds there
-abbrev pub repairedAt : (t : Thresholds) (strip : List ℕ) (at : ℕ) (row buffer : List ℕ) (i : ℕ) → ℕ
-repairedAt t strip at row buffer i = cond (flagAt row i) (soundAt t strip at i) (getD buffer i 0)
-
--- the bits of place i in the copy that its flag tells
-abbrev pub pickedAt : (t : Thresholds) (strip : List ℕ) (one two : ℕ) (row : List ℕ) (i : ℕ) → ℕ
-pickedAt t strip one two row i = bitsAt t strip (bytePlace (cond (flagAt row i) two one) (9 + i))
+  pub says : check ≡ checkOf (firstFrom (isLost cs one two) (n + 1) 0) (sumHolds cs one two n) (repairs cs one two n)
+  pub flagged : firstFrom (isLost cs one two) (n + 1) 0 ≡ none → Flagged cs one two n row

@@ -1,7 +1,6 @@
 -- A row of flags, eight to a byte, lowest first.
-use Prim.Native.Nat.{ℕ, _+_, _/_, _%_, _^_, _≤_, _<_}
-use mathlib.Core.Path.{_≡_}
-use mathlib.Core.Bool.{Bool, true, false}
+use Prim.Native.Nat.{ℕ, _/_, _%_, _^_}
+use mathlib.Core.Bool.{Bool}
 use mathlib.Core.List.{List}
 use lib.Bits.{bitOr}
 use lib.Dec.{eqb}
@@ -15,10 +14,6 @@ flagAt row i = eqb (getD row (i / 8) 0 / 2 ^ (i % 8) % 2) 1
 unfoldable pub raised : (row : List ℕ) (i : ℕ) → List ℕ
 raised row i = set row (i / 8) (bitOr (getD row (i / 8) 0) (2 ^ (i % 8)))
 
--- every flag below n is raised
-abbrev pub AllRaised : (row : List ℕ) (n : ℕ) → Type 0
-AllRaised row n = (j : ℕ) → j < n → flagAt row j ≡ true
-
--- none of the eight from i on is raised
-abbrev pub NoneOfEight : (row : List ℕ) (i : ℕ) → Type 0
-NoneOfEight row i = (j : ℕ) → i ≤ j → j < i + 8 → flagAt row j ≡ false
+-- the group of place i; a group has sixteen places
+abbrev pub groupOf : (i : ℕ) → ℕ
+groupOf i = i / 16

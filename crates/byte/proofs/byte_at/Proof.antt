@@ -1,5 +1,4 @@
 -- `byte::byte_at` meets its contract.
-use Prim.Native.Nat.{_+_, _-_}
 use native.Mathlib.Omega.{arith}
 use mathlib.Core.Path.{sym, _∙_}
 use borrow.Author.Needs.{needs}
@@ -44,7 +43,7 @@ read-frame-requires c κs = search needs
 returns-3 : tie.Need-returns-3
 returns-3 c =
     let args = c .before .before .before .before .before .args in
-    c .read-frame .ensures ∙ readFrame-part (args .t) (now (args .strip)) (args .at) (args .at + 20 - args .at) (omega arith) (omega arith)
+    c .read-frame .ensures ∙ readFrame-part (args .t) (now (args .strip)) (args .at) (omega arith)
 
 pub byte-at-spec : {M : Type 1} → statement M
 byte-at-spec =

@@ -6,7 +6,7 @@ use borrow.Author.Needs.{needs}
 use denote.Ref.{now}
 use lib.ListN.{length}
 use Rattle.byte.specs.Byte.{bits, coded}
-use Rattle.byte.specs.private.Nibbles.{nibblesFrom}
+use Rattle.byte.specs.private.Quarters.{quartersFrom}
 use Rattle.byte.proofs.Stores.{BytesPut, bytesPut-next, writeBytes-whole, writeBytes-noRoom}
 use Rattle.byte.proofs.write_bytes.Statement.{statement}
 use Rattle.byte.proofs.write_bytes.Tie as tie
@@ -35,7 +35,7 @@ shared-slice-read-put-twenty : tie.Need-shared-slice-read-put-twenty Inv-loop μ
 shared-slice-read-put-twenty c = search needs
 
 put-twenty-requires : tie.Need-put-twenty-requires Inv-loop μ-loop
-unfolding nibblesFrom bits coded
+unfolding quartersFrom bits coded
 put-twenty-requires c κs = (search needs, refl)
 
 add-i : tie.Need-add-i Inv-loop μ-loop

@@ -1,27 +1,39 @@
 -- `block::rules::check_values` meets its contract. The invariant: no place so far is lost, the sum so far, XORed with the values left, is that
--- of all, and the places so far are flagged.
+-- of all, and the count and the flags are those of the places so far.
 use Prim.Native.Nat.{_+_, _-_}
-use mathlib.Core.Path.{sym, _∙_}
+use native.Mathlib.Omega.{arith}
+use mathlib.Core.Path.{sym, ap, _∙_}
+use mathlib.Core.Logic.{⊎-elim}
 use borrow.Author.Needs.{needs}
 use Rattle.pulse.specs.Pulse.{classes}
-use Rattle.block.proofs.Checking.{Checking, checking-begun, checkValues-lost, checkValues-sound, checkValues-wrongSum, checking-next}
+use Rattle.block.specs.private.Checks.{placeRead}
+use Rattle.block.proofs.Checking.{Checking, checking-begun, checkValues-lost, checkValues-sound, checkValues-wrongSum, checking-few, checking-one, checking-two}
 use Rattle.block.proofs.rules.check_values.Statement.{statement}
 use Rattle.block.proofs.rules.check_values.Tie as tie
 
 abbrev Inv-loop : tie.InvT-loop
-Inv-loop t strip one two n flags₀ sum₀ i₀ flags sum i = Checking (classes t strip) one two n flags₀ flags sum i
+Inv-loop t strip one two n row₀ sum₀ repaired₀ i₀ row sum repaired i = Checking (classes t strip) one two n row₀ row sum repaired i
 
 abbrev μ-loop : tie.MeasureT-loop
-μ-loop t strip one two n flags₀ sum₀ i₀ flags sum i = n + 1 - i
+μ-loop t strip one two n row₀ sum₀ repaired₀ i₀ row sum repaired i = n + 1 - i
 
 loop-holds : tie.Need-loop-holds Inv-loop μ-loop
-loop-holds c = checking-begun _ _ _ _ _ (c .before .before .pre .3)
+loop-holds c = checking-begun _ _ _ _ _
 
 read-place-requires : tie.Need-read-place-requires Inv-loop μ-loop
 read-place-requires c κs = search needs
 
-enum-known-value : tie.Need-enum-known-value Inv-loop μ-loop
-enum-known-value c = search needs
+enum-known-first : tie.Need-enum-known-first Inv-loop μ-loop
+enum-known-first c = search needs
+
+enum-known-second : tie.Need-enum-known-second Inv-loop μ-loop
+enum-known-second c = search needs
+
+raise-flag-requires : tie.Need-raise-flag-requires Inv-loop μ-loop
+raise-flag-requires c κs = search needs
+
+add-repaired : tie.Need-add-repaired Inv-loop μ-loop
+add-repaired c = omega (arith, checking-few (c .before .before .before .before .before .before .before .before .before .loop .inv))
 
 enum-told : tie.Need-enum-told Inv-loop μ-loop
 enum-told c = search needs
@@ -31,9 +43,9 @@ same-length c = search needs
 
 returns : tie.Need-returns Inv-loop μ-loop
 returns c =
-    let read-place = c .before .before .before .before in
-    let test = read-place .before .before in
-    checkValues-lost (test .before .loop .inv) (test .loop-test .taken) (sym (read-place .read-place .ensures .0) ∙ c .enum-told .given .1)
+    let read-place = c .before .before in
+    let test = read-place .before in
+    checkValues-lost (test .before .loop .inv) (test .loop-test .taken) (sym (read-place .read-place .ensures) ∙ ap placeRead (c .enum-told .given .1))
 
 add-i : tie.Need-add-i Inv-loop μ-loop
 add-i c = search needs
@@ -43,10 +55,15 @@ loop-less c = search needs
 
 loop-again : tie.Need-loop-again Inv-loop μ-loop
 loop-again c =
-    let read-place = c .before .before .before .before .before in
-    let test = read-place .before .before in
-    checking-next (test .before .loop .inv) (test .loop-test .taken) (test .before .before .before .before .pre .2) (sym (read-place .read-place .ensures .0) ∙ c .before .value .given .1)
-    (read-place .read-place .ensures .1)
+    let read-place = c .before in
+    let test = read-place .before in
+    let inv = test .before .loop .inv in
+    let h = test .loop-test .taken in
+    let e = sym (read-place .read-place .ensures) in
+    ⊎-elim
+    (λ w. checking-one inv h (w .4) (e ∙ ap placeRead (w .1 .given .1)) (w .3) (w .5))
+    (λ w. checking-two inv h (w .8) (test .before .before .before .before .pre .2) (e ∙ ap placeRead (w .1 .given .1)) (w .7 ∙ w .4 .ensures) (w .9))
+    (c .match .came)
 
 same-length-2 : tie.Need-same-length-2 Inv-loop μ-loop
 same-length-2 c = search needs
@@ -68,7 +85,10 @@ check-values-spec =
     μ-loop
     loop-holds
     read-place-requires
-    enum-known-value
+    enum-known-first
+    enum-known-second
+    raise-flag-requires
+    add-repaired
     enum-told
     same-length
     returns

@@ -1,7 +1,7 @@
 -- `block::rules::is_counted` meets its contract: copy one's byte decides, and copy two's where that is another.
-use Prim.Native.Nat.{_+_, _-_, _*_}
+use Prim.Native.Nat.{_+_, _*_}
 use native.Mathlib.Omega.{arith}
-use mathlib.Core.Path.{_≡_, sym, ap, _∙_}
+use mathlib.Core.Path.{sym, ap, _∙_}
 use denote.Ref.{now}
 use lib.Dec.{lit<}
 use Rattle.byte.specs.Byte.{isGood}
@@ -47,7 +47,7 @@ holds-requires c κs = search needs
 returns : tie.Need-returns
 returns c =
     let args = c .before .before .before .before .before .args in
-    let frame = readFrame-part (args .t) (now (args .strip)) (args .one + 20 * args .i) _ (let z : args .one + 20 * args .i + 20 - (args .one + 20 * args .i) ≡ 20 = omega arith in z) (omega arith) in
+    let frame = readFrame-part (args .t) (now (args .strip)) (args .one + 20 * args .i) (omega arith) in
     isCounted-one _ _ _ _ _ (row-at 0 (lit< tt) (args .i) (omega arith)) (ap (isGood _) (sym frame) ∙ sym (c .before .holds .ensures) ∙ c .if1 .taken)
 
 add-holds-4 : tie.Need-add-holds-4
@@ -84,8 +84,8 @@ returns-2 : tie.Need-returns-2
 returns-2 c =
     let test = c .before .before .before in
     let args = test .before .before .before .before .before .args in
-    let one = readFrame-part (args .t) (now (args .strip)) (args .one + 20 * args .i) _ (let z : args .one + 20 * args .i + 20 - (args .one + 20 * args .i) ≡ 20 = omega arith in z) (omega arith) in
-    let two = readFrame-part (args .t) (now (args .strip)) (args .two + 20 * args .i) _ (let z : args .two + 20 * args .i + 20 - (args .two + 20 * args .i) ≡ 20 = omega arith in z) (omega arith) in
+    let one = readFrame-part (args .t) (now (args .strip)) (args .one + 20 * args .i) (omega arith) in
+    let two = readFrame-part (args .t) (now (args .strip)) (args .two + 20 * args .i) (omega arith) in
     isCounted-two _ _ _ _ _ _ (row-at 0 (lit< tt) (args .i) (omega arith)) (row-at 1 (lit< tt) (args .i) (omega arith))
     (ap (isGood _) (sym one) ∙ sym (test .before .holds .ensures) ∙ test .if1 .left) (c .holds2 .ensures ∙ ap (isGood _) two)
 

@@ -1,10 +1,7 @@
--- `block::rules::read_copies` meets its contract: each answer is the outcome's, by what the parts of the reader found. No flag of the row is
--- raised at first.
-use native.Mathlib.Omega.{arith}
+-- `block::rules::read_copies` meets its contract: each answer is the outcome's, by what the parts of the reader found.
 use borrow.Author.Needs.{needs}
 use denote.Ref.{now}
-use Rattle.block.proofs.FlagLaws.{flagAt-zeros}
-use Rattle.block.proofs.Answers.{readCopies-wrongCountdown, readCopies-lostByte, readCopies-wrongChecksum, readCopies-accepted}
+use Rattle.block.proofs.Answers.{readCopies-wrongCountdown, readCopies-lostByte, readCopies-wrongChecksum, check-passed, readCopies-accepted}
 use Rattle.block.proofs.rules.read_copies.Statement.{statement}
 use Rattle.block.proofs.rules.read_copies.Tie as tie
 
@@ -32,7 +29,7 @@ slice-aggregate-check-values : tie.Need-slice-aggregate-check-values
 slice-aggregate-check-values c = search needs
 
 check-values-requires : tie.Need-check-values-requires
-check-values-requires c κs = (omega arith, omega arith, omega arith, flagAt-zeros 1025)
+check-values-requires c κs = search needs
 
 enum-known-i-2 : tie.Need-enum-known-i-2
 enum-known-i-2 c = search needs
@@ -46,14 +43,16 @@ enum-told-2 c = search needs
 refused-requires-3 : tie.Need-refused-requires-3
 refused-requires-3 c κs = search needs
 
-enum-told-3 : tie.Need-enum-told-3
-enum-told-3 c = search needs
+enum-known-repaired : tie.Need-enum-known-repaired
+enum-known-repaired c = search needs
 
 slice-aggregate-fill-values : tie.Need-slice-aggregate-fill-values
 slice-aggregate-fill-values c = search needs
 
 fill-values-requires : tie.Need-fill-values-requires
-fill-values-requires c κs = search needs
+fill-values-requires c κs =
+    let sound = c .before .before .before in
+    (search needs, check-passed (sound .before .before .before .check-values .ensures) (sound .repaired .given .1))
 
 returns-2 : tie.Need-returns-2
 returns-2 c =
@@ -83,14 +82,14 @@ same-length c = search needs
 returns-4 : tie.Need-returns-4
 returns-4 c =
     let fill-values = c .before .before in
-    let sound = fill-values .before .before .before in
+    let sound = fill-values .before .before .before .before in
     let check-values = sound .before .before .before in
     let counted = check-values .before .before in
     let first-miscounted = counted .before .before in
     let start = first-miscounted .before .before .before in
     let args = start .args in
     readCopies-accepted (args .t) (now (args .strip)) (args .copies .one) (args .n) (now (args .out)) (start .pre .0 .0) (first-miscounted .first-miscounted .ensures) (counted .enum-told .given .1)
-    (check-values .check-values .ensures) (start .pre .0 .1) (start .pre .1 .1) (sound .enum-told3 .given .1) (fill-values .fill-values .ensures)
+    (check-values .check-values .ensures) (start .pre .0 .1) (start .pre .1 .1) (sound .repaired .given .1) (fill-values .fill-values .ensures)
 
 pub read-copies-spec : {M : Type 1} → statement M
 read-copies-spec =
@@ -107,7 +106,7 @@ read-copies-spec =
     refused-requires-2
     enum-told-2
     refused-requires-3
-    enum-told-3
+    enum-known-repaired
     slice-aggregate-fill-values
     fill-values-requires
     returns-2

@@ -1,12 +1,13 @@
--- `block::rules::read_place` meets its contract.
-use Prim.Native.Nat.{_+_, _-_, _*_}
+-- `block::rules::read_place` meets its contract: the bytes of both copies decide which case of `placeOf` it is.
+use Prim.Native.Nat.{_+_, _*_}
 use native.Mathlib.Omega.{arith}
-use mathlib.Core.Path.{_≡_, sym, _∙_}
+use mathlib.Core.Path.{sym, ap, _∙_}
 use denote.Ref.{now}
-use Rattle.pulse.specs.Pulse.{classes}
-use Rattle.byte.proofs.ByteLaws.{readFrame-part}
-use Rattle.block.proofs.Checking.{place-one, place-two}
 use borrow.Author.Needs.{needs}
+use Rattle.pulse.specs.Pulse.{classes}
+use Rattle.byte.specs.Byte.{isBad}
+use Rattle.byte.proofs.ByteLaws.{readFrame-part}
+use Rattle.block.proofs.ReadingLaws.{placeAt-one, placeAt-two, placeAt-lost}
 use Rattle.block.proofs.rules.read_place.Statement.{statement}
 use Rattle.block.proofs.rules.read_place.Tie as tie
 
@@ -40,14 +41,11 @@ part-read-frame-end c = search needs
 read-frame-requires : tie.Need-read-frame-requires
 read-frame-requires c κs = search needs
 
-enum-known-value : tie.Need-enum-known-value
-enum-known-value c = search needs
+enum-known-first : tie.Need-enum-known-first
+enum-known-first c = search needs
 
 enum-told : tie.Need-enum-told
 enum-told c = search needs
-
-raise-flag-requires : tie.Need-raise-flag-requires
-raise-flag-requires c κs = search needs
 
 add-read-frame-4 : tie.Need-add-read-frame-4
 add-read-frame-4 c = search needs
@@ -73,30 +71,46 @@ part-read-frame-end-2 c = search needs
 read-frame-requires-2 : tie.Need-read-frame-requires-2
 read-frame-requires-2 c κs = search needs
 
-same-length : tie.Need-same-length
-same-length c = search needs
+enum-known-second : tie.Need-enum-known-second
+enum-known-second c = search needs
+
+enum-told-2 : tie.Need-enum-told-2
+enum-told-2 c = search needs
 
 returns : tie.Need-returns
 returns c =
-    let raise-flag = c .before .before .before .before in
-    let arm = raise-flag .before .before in
+    let second = c .before .before in
+    let arm = second .before .before in
     let first = arm .before .before in
-    let args = first .before .before .before .before .args in
+    let args = first .before .before .before .args in
+    let cs = classes (args .t) (now (args .strip)) in
     let at = 20 * (9 + args .i) in
-    let one = readFrame-part (args .t) (now (args .strip)) (args .one + at) _ (let z : args .one + at + 20 - (args .one + at) ≡ 20 = omega arith in z) (omega arith) in
-    let two = readFrame-part (args .t) (now (args .strip)) (args .two + at) _ (let z : args .two + at + 20 - (args .two + at) ≡ 20 = omega arith in z) (omega arith) in
-    let p = place-two (classes (args .t) (now (args .strip))) (args .one) (args .two) (args .i) (now (args .row))
-    (sym one ∙ sym (first .read-frame .ensures) ∙ arm .enum-told .given .1) (c .read-frame2 .ensures ∙ two) in
-    (p .0, raise-flag .raise-flag .ensures ∙ p .1)
+    let one = readFrame-part (args .t) (now (args .strip)) (args .one + at) (omega arith) in
+    let two = readFrame-part (args .t) (now (args .strip)) (args .two + at) (omega arith) in
+    sym (placeAt-lost cs (args .one) (args .two) (args .i) (ap isBad (sym one ∙ sym (first .read-frame .ensures) ∙ arm .enum-told .given .1))
+    (ap isBad (sym two ∙ sym (second .read-frame2 .ensures) ∙ c .enum-told2 .given .1)))
 
 returns-2 : tie.Need-returns-2
 returns-2 c =
-    let first = c .before .before .before in
-    let args = first .before .before .before .before .args in
+    let second = c .before .before .before in
+    let arm = second .before .before in
+    let first = arm .before .before in
+    let args = first .before .before .before .args in
+    let cs = classes (args .t) (now (args .strip)) in
     let at = 20 * (9 + args .i) in
-    let one = readFrame-part (args .t) (now (args .strip)) (args .one + at) _ (let z : args .one + at + 20 - (args .one + at) ≡ 20 = omega arith in z) (omega arith) in
-    place-one (classes (args .t) (now (args .strip))) (args .one) (args .two) (args .i) (now (args .row))
-    (sym one ∙ sym (first .read-frame .ensures) ∙ c .before .value .given .1)
+    let one = readFrame-part (args .t) (now (args .strip)) (args .one + at) (omega arith) in
+    let two = readFrame-part (args .t) (now (args .strip)) (args .two + at) (omega arith) in
+    sym (placeAt-two cs (args .one) (args .two) (args .i) _ (ap isBad (sym one ∙ sym (first .read-frame .ensures) ∙ arm .enum-told .given .1))
+    (sym two ∙ sym (second .read-frame2 .ensures) ∙ c .before .second .given .1))
+
+returns-3 : tie.Need-returns-3
+returns-3 c =
+    let first = c .before .before .before in
+    let args = first .before .before .before .args in
+    let cs = classes (args .t) (now (args .strip)) in
+    let at = 20 * (9 + args .i) in
+    let one = readFrame-part (args .t) (now (args .strip)) (args .one + at) (omega arith) in
+    sym (placeAt-one cs (args .one) (args .two) (args .i) _ (sym one ∙ sym (first .read-frame .ensures) ∙ c .before .first .given .1))
 
 pub read-place-spec : {M : Type 1} → statement M
 read-place-spec =
@@ -112,9 +126,8 @@ read-place-spec =
     part-read-frame-start
     part-read-frame-end
     read-frame-requires
-    enum-known-value
+    enum-known-first
     enum-told
-    raise-flag-requires
     add-read-frame-4
     add-read-frame-5
     add-read-frame-6
@@ -123,6 +136,8 @@ read-place-spec =
     part-read-frame-start-2
     part-read-frame-end-2
     read-frame-requires-2
-    same-length
+    enum-known-second
+    enum-told-2
     returns
-    returns-2)
+    returns-2
+    returns-3)

@@ -1,22 +1,22 @@
--- `byte::put_nibble` meets its contract. The invariant: the pulses left of the table's row, put after those that are there, give them all.
+-- `byte::write::put_quarter` meets its contract. The invariant: the pulses left of the table's row, put after those that are there, give them all.
 use Prim.Native.Nat.{_-_, _≤_}
 use native.Mathlib.Omega.{arith}
 use borrow.Author.Needs.{needs}
 use denote.Ref.{now}
 use Rattle.lists.proofs.LoopLaws.{Copied, copy-begun}
-use Rattle.byte.specs.private.Nibbles.{nibble}
-use Rattle.byte.proofs.NibbleLaws.{nibble-next, nibble-done}
-use Rattle.byte.proofs.put_nibble.Statement.{statement}
-use Rattle.byte.proofs.put_nibble.Tie as tie
+use Rattle.byte.specs.private.Quarters.{quarter}
+use Rattle.byte.proofs.QuarterLaws.{row-fits, quarter-next, quarter-done}
+use Rattle.byte.proofs.write.put_quarter.Statement.{statement}
+use Rattle.byte.proofs.write.put_quarter.Tie as tie
 
 abbrev Inv-loop : tie.InvT-loop
-Inv-loop out₀ at table n i₀ out i = (i ≤ 8) × Copied out₀ at (nibble n) out i
+Inv-loop out₀ at table n i₀ out i = (i ≤ 4) × Copied out₀ at (quarter n) out i
 
 abbrev μ-loop : tie.MeasureT-loop
-μ-loop out₀ at table n i₀ out i = 8 - i
+μ-loop out₀ at table n i₀ out i = 4 - i
 
 loop-holds : tie.Need-loop-holds Inv-loop μ-loop
-loop-holds c = let args = c .args in (omega arith, copy-begun (now (args .out)) (args .at) (nibble (args .n)))
+loop-holds c = let args = c .args in (omega arith, copy-begun (now (args .out)) (args .at) (quarter (args .n)))
 
 mul-out : tie.Need-mul-out Inv-loop μ-loop
 mul-out c = search needs
@@ -29,6 +29,11 @@ index-1-out c = search needs
 
 index-2-out : tie.Need-index-2-out Inv-loop μ-loop
 index-2-out c = search needs
+
+cast-out : tie.Need-cast-out Inv-loop μ-loop
+cast-out c =
+    let loop = c .before .before in
+    omega (arith, row-fits (loop .before .args .n) (loop .loop .i) (loop .before .pre .1) (omega arith))
 
 add-out : tie.Need-add-out Inv-loop μ-loop
 add-out c = search needs
@@ -50,7 +55,7 @@ loop-again c =
     let loop = c .before .before in
     let start = loop .before in
     let args = start .args in
-    (omega arith, nibble-next (now (args .out)) (args .at) (args .n) (loop .loop .inv .1) (start .pre .1) (omega arith) (c .before .loop-test .taken))
+    (omega arith, quarter-next (now (args .out)) (args .at) (args .n) (loop .loop .inv .1) (start .pre .1) (omega arith) (c .before .loop-test .taken))
 
 same-length : tie.Need-same-length Inv-loop μ-loop
 same-length c = search needs
@@ -59,10 +64,10 @@ returns : tie.Need-returns Inv-loop μ-loop
 returns c =
     let loop = c .before in
     let args = loop .before .args in
-    nibble-done (now (args .out)) (args .at) (args .n) (loop .loop .inv .1) (c .loop-test .left)
+    quarter-done (now (args .out)) (args .at) (args .n) (loop .loop .inv .1) (c .loop-test .left)
 
-pub put-nibble-spec : {M : Type 1} → statement M
-put-nibble-spec =
+pub put-quarter-spec : {M : Type 1} → statement M
+put-quarter-spec =
     tie.close
     (tie.spec
     Inv-loop
@@ -72,6 +77,7 @@ put-nibble-spec =
     mul-out-2
     index-1-out
     index-2-out
+    cast-out
     add-out
     mul-out-3
     slice-write-out

@@ -1,12 +1,12 @@
--- `byte::put_bit` meets its contract: the pair that it puts is the code of the bit.
+-- `byte::write::put_bit` meets its contract: the pair that it puts is the code of the bit.
 use mathlib.Core.Path.{ap, _∙_}
 use borrow.Author.Needs.{needs}
 use denote.Ref.{now}
 use lib.Seq.{sets}
 use Rattle.pulse.specs.Pulse.{pulses}
 use Rattle.byte.proofs.Stores.{coded-zero, coded-one}
-use Rattle.byte.proofs.put_bit.Statement.{statement}
-use Rattle.byte.proofs.put_bit.Tie as tie
+use Rattle.byte.proofs.write.put_bit.Statement.{statement}
+use Rattle.byte.proofs.write.put_bit.Tie as tie
 
 put-pair-requires : tie.Need-put-pair-requires
 put-pair-requires c κs = search needs

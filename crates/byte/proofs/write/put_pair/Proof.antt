@@ -1,10 +1,10 @@
--- `byte::put_pair` meets its contract: two stores, one after the other.
+-- `byte::write::put_pair` meets its contract: two stores, one after the other.
 use native.Mathlib.Numerals.{add-one}
 use native.Mathlib.Omega.{arith}
 use borrow.Author.Needs.{needs}
 use lib.ListN.{length-set}
-use Rattle.byte.proofs.put_pair.Statement.{statement}
-use Rattle.byte.proofs.put_pair.Tie as tie
+use Rattle.byte.proofs.write.put_pair.Statement.{statement}
+use Rattle.byte.proofs.write.put_pair.Tie as tie
 
 written-as-requires : tie.Need-written-as-requires
 written-as-requires c κs = search needs

@@ -1,0 +1,110 @@
+-- The values by what was kept: which copy's bits they are.
+use Prim.Native.Nat.{ℕ, _+_, _-_, _*_, _≤_, _<_}
+use native.Mathlib.Decide.{decLt}
+use native.Mathlib.Omega.{arith}
+use mathlib.Core.Path.{_≡_, refl, sym, ap, _∙_}
+use mathlib.Core.Bool.{Bool, true, false, cond, not, Bool·beq}
+use mathlib.Core.List.{List}
+use lib.Seq.{sets}
+use Rattle.lists.specs.Places.{tabulate}
+use Rattle.lists.proofs.PlaceLaws.{tabulate-same, length-tabulate}
+use Rattle.lists.proofs.LoopLaws.{tableLeft, table-begun, table-part, Putting, put-next}
+use Rattle.pulse.specs.declared.Thresholds.{Thresholds}
+use Rattle.pulse.specs.declared.Class.{Class}
+use Rattle.pulse.specs.Pulse.{classes}
+use Rattle.byte.specs.declared.ByteRead.{ByteRead}
+use Rattle.byte.specs.declared.ByteRead.the-variants.{Good, Bad}
+use Rattle.byte.specs.Byte.{byteAt}
+use Rattle.block.specs.Reading.{placeOf, noValue, placeValue, placeAt, isLost, valueAt, valuesAt}
+use Rattle.block.specs.private.Values.{bitsAt, bitsOf}
+use Rattle.block.specs.private.Flags.{flagAt, groupOf}
+use Rattle.block.specs.private.Checks.{isFromTwo, isRepaired, repairs, Flagged, SameFlags, NoneLost}
+use Rattle.block.proofs.ValueLaws.{good-bits}
+use Rattle.block.proofs.Checking.{count-none, count-all}
+
+-- ---- A value that is not lost
+
+module _ (t : Thresholds) (strip : List ℕ) (one two : ℕ) where
+  abbrev cs : List Class
+  cs = classes t strip
+
+  -- it is copy one's, or it is copy two's
+  by-copy : (at : ℕ) (a b : ByteRead) → byteAt cs (one + at) ≡ a → byteAt cs (two + at) ≡ b → noValue (placeOf a b) ≡ false
+      → bitsAt t strip (cond (isFromTwo (placeOf a b)) two one + at) ≡ placeValue (placeOf a b)
+  by-copy at (Good v) b p q h = good-bits t strip (one + at) p
+  by-copy at Bad (Good v) p q h = good-bits t strip (two + at) q
+  by-copy at Bad Bad p q h = absurd (let z : _≡_ {A = ℕ} 0 1 = cc in omega arith)
+
+  bits-value : (i : ℕ) {repaired : Bool} → isLost cs one two i ≡ false → isRepaired cs one two i ≡ repaired → bitsOf t strip (cond repaired two one) i ≡ valueAt cs one two i
+  unfolding placeAt
+  bits-value i h e = rw (← e) (by-copy (20 * (9 + i)) _ _ refl refl h)
+
+  -- ---- Places in a row
+
+  module _ (n : ℕ) (values : NoneLost cs one two n) where
+    part-value : (i end : ℕ) {repaired : Bool} → i ≤ end → end ≤ n → ((j : ℕ) → i ≤ j → j < end → isRepaired cs one two j ≡ repaired)
+        → tabulate (bitsOf t strip (cond repaired two one)) (end - i) i ≡ tabulate (valueAt cs one two) (end - i) i
+    part-value i end {repaired} h l e =
+        tabulate-same (bitsOf t strip (cond repaired two one)) (valueAt cs one two) (end - i) i
+        (λ j a b. bits-value j (values j (omega arith)) (e j a (omega arith)))
+
+    -- where none is repaired, and where each is
+    pub values-one : {repaired : ℕ} → repaired ≡ repairs cs one two n → repaired ≡ 0 → tabulate (bitsOf t strip one) (n - 0) 0 ≡ valuesAt cs one two n
+    values-one c e =
+        part-value 0 n (omega arith) (omega arith) (λ j a b. count-none (isRepaired cs one two) (n + 1) (sym c ∙ e) j (omega arith))
+        ∙ table-begun (valueAt cs one two) n
+
+    pub values-two : {repaired : ℕ} → repaired ≡ repairs cs one two n → n < repaired → tabulate (bitsOf t strip two) (n - 0) 0 ≡ valuesAt cs one two n
+    values-two c e =
+        part-value 0 n (omega arith) (omega arith) (λ j a b. count-all (isRepaired cs one two) (n + 1) (omega arith) j (omega arith))
+        ∙ table-begun (valueAt cs one two) n
+
+    -- where the flags of a run are down
+    pub run-one : (row : List ℕ) (i end : ℕ) → Flagged cs one two n row → i ≤ end → end ≤ n → SameFlags row i end → flagAt row (groupOf i) ≡ false
+        → tabulate (bitsOf t strip one) (end - i) i ≡ tabulate (valueAt cs one two) (end - i) i
+    run-one row i end flagged h l same d = part-value i end h l (λ j a b. flagged j (omega arith) (same j a b ∙ d))
+
+  -- ---- Another look at copy one's byte
+
+  pub value-one : (i : ℕ) {v : ℕ} → byteAt cs (one + 20 * (9 + i)) ≡ Good v → v ≡ valueAt cs one two i
+  unfolding placeAt
+  value-one i e = rw e
+
+  pub value-two : (i : ℕ) → isLost cs one two i ≡ false → byteAt cs (one + 20 * (9 + i)) ≡ Bad → bitsAt t strip (two + 20 * (9 + i)) ≡ valueAt cs one two i
+  unfolding placeAt
+  value-two i h e = rw e (go (byteAt cs (two + 20 * (9 + i))) refl (rw e at h))
+    where
+      go : (b : ByteRead) → byteAt cs (two + 20 * (9 + i)) ≡ b → noValue (placeOf Bad b) ≡ false → bitsAt t strip (two + 20 * (9 + i)) ≡ placeValue (placeOf Bad b)
+      go (Good v) f k = good-bits t strip (two + 20 * (9 + i)) f
+      go Bad f k = absurd (let z : _≡_ {A = ℕ} 0 1 = cc in omega arith)
+
+-- ---- Values put part by part: with those below i put, the rest put after them gives the whole
+
+module _ (cs : List Class) (one two n : ℕ) (out₀ : List ℕ) where
+  abbrev pub ValuesPut : List ℕ → ℕ → Type 0
+  ValuesPut out i = Putting out₀ 0 (valuesAt cs one two n) out i (tableLeft (valueAt cs one two) n i)
+
+  pub values-next : {out out′ : List ℕ} {i end : ℕ} → i ≤ end → end ≤ n → ValuesPut out i → out′ ≡ sets out i (tabulate (valueAt cs one two) (end - i) i) → ValuesPut out′ end
+  values-next {i = i} {end} h l u e =
+      let values = tabulate (valueAt cs one two) (end - i) i in
+      put-next u values (tableLeft (valueAt cs one two) n end) (table-part (valueAt cs one two) n i end h l) e
+      (omega (arith, length-tabulate (valueAt cs one two) (end - i) i))
+
+-- ---- Runs
+
+beq-same : (a b : Bool) → not (Bool·beq a b) ≡ false → a ≡ b
+beq-same true true e = refl
+beq-same true false e = absurd (let z : _≡_ {A = ℕ} 0 1 = cc in omega arith)
+beq-same false true e = absurd (let z : _≡_ {A = ℕ} 0 1 = cc in omega arith)
+beq-same false false e = refl
+
+module _ (row : List ℕ) (i : ℕ) where
+  pub run-begun : (i < 16 * (groupOf i + 1)) × SameFlags row i (16 * (groupOf i + 1))
+  run-begun = (omega arith, λ j a b. ap (flagAt row) (omega arith))
+
+  pub run-next : (group : ℕ) {here up : Bool} → SameFlags row i (16 * group) → here ≡ flagAt row group → up ≡ flagAt row (groupOf i) → not (Bool·beq here up) ≡ false
+      → SameFlags row i (16 * (group + 1))
+  run-next group {here} {up} u e f d j a b = elim (decLt j (16 * group)) [
+    | yes l ↦ u j a l
+    | no l ↦ ap (flagAt row) (let z : groupOf j ≡ group = omega arith in z) ∙ sym e ∙ beq-same here up d ∙ f
+  ]
