@@ -1,5 +1,5 @@
-# `rt`, the command of the Rattle kit, has to be on the PATH; for lib, test and bench also cc, and for the last two cargo.
-.PHONY: run test lib bench-lib bench bench-store
+# `rt`, the command of the Rattle kit, has to be on the PATH; for lib, test and bench also cc, for the last two cargo, for bench objcopy.
+.PHONY: run test lib bench-lib bench-aligned bench bench-store
 
 TAPE = samples/game.tap
 
@@ -26,10 +26,19 @@ bench-lib: # prove and build the archive of the crate bench, which the Rust test
 	@mkdir -p target
 	@rt staticlib bench > target/bench-lib.log 2>&1 || { tail -n 40 target/bench-lib.log; exit 1; }
 
-BENCH = cargo run --release --offline --quiet --bin bench --
+# both archives for the bench, with every function at a multiple of 64 bytes, as those of the Rust implementation are
+ALIGNED = target/aligned
 
-bench: lib bench-lib # our library and an independent Rust implementation side by side, and beside the stored ratios
+bench-aligned: lib bench-lib
+	@mkdir -p "$(ALIGNED)"
+	@for name in capi bench; do \
+	    objcopy -w --set-section-alignment '.text.*=64' "target/staticlib/lib$$name.a" "$(ALIGNED)/lib$$name.a" || exit 1; \
+	done
+
+BENCH = CRUMBTHISTLE_LIB="$(CURDIR)/$(ALIGNED)" cargo run --release --offline --quiet --bin bench --
+
+bench: bench-aligned # our library and an independent Rust implementation side by side, and beside the stored ratios
 	@cd tests/differential && $(BENCH)
 
-bench-store: lib bench-lib # the same, and its ratios are stored
+bench-store: bench-aligned # the same, and its ratios are stored
 	@cd tests/differential && $(BENCH) --store

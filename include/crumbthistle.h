@@ -135,10 +135,10 @@ tape_tap tape_read_tap(const uint8_t *file, size_t len, uint32_t *out, size_t ro
 /* Bytes of stack that each call needs, with its return address: read off the machine code of this archive and rounded up to a multiple of
  * 16. What memcpy and memset of the C library need is not counted. */
 enum {
-    TAPE_STACK_WRITE_BLOCK = 800,
-    TAPE_STACK_READ_BLOCK = 1344,
-    TAPE_STACK_WRITE_FILE = 1232,
-    TAPE_STACK_READ_FILE = 1664,
+    TAPE_STACK_WRITE_BLOCK = 320,
+    TAPE_STACK_READ_BLOCK = 384,
+    TAPE_STACK_WRITE_FILE = 752,
+    TAPE_STACK_READ_FILE = 704,
     TAPE_STACK_PACK_HEADER = 16,
     TAPE_STACK_UNPACK_HEADER = 16,
     TAPE_STACK_SHOWN_NAME = 16,

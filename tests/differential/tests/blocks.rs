@@ -139,6 +139,36 @@ fn lengths_around(n: usize) -> [usize; 10] {
     ]
 }
 
+/// Copy one is bad over a run of places and copy two at all others. The run ends
+/// around multiples of sixteen, and it may have no place or every one.
+#[test]
+fn runs_of_bad_bytes() {
+    let mut run = Run::new("runs of bad bytes");
+    let mut random = run.random();
+    for n in [1, 2, 15, 16, 17, 31, 32, 33, 127, 128, 129, 192, 8191, 8192] {
+        let payload = random.bytes(n);
+        let mut written = Vec::new();
+        let block = push_block(&mut written, &payload, 64);
+        let ends = [0, 1, 15, 16, 17, 32, n / 2, n - 1, n, n + 1];
+        for from in ends {
+            for to in ends {
+                let mut pulses = written.clone();
+                for place in 0..=n {
+                    let sound = usize::from((from..to).contains(&place));
+                    hit(
+                        &mut random,
+                        &mut pulses[block.frame(1 - sound, 9 + place)],
+                        1,
+                    );
+                }
+                let answer = run.read_block(&mut random, &pulses, 0, n, n);
+                assert_eq!(answer.map(|(_, out)| out), Ok(payload.clone()));
+            }
+        }
+    }
+    run.finish(&[("read_block", &[(0, 0)])]);
+}
+
 /// Every cut of a short block, and every place to start from.
 #[test]
 fn every_cut_and_every_place() {
