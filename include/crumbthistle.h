@@ -29,8 +29,8 @@ extern "C" {
 #endif
 
 /* The version of this interface. It is raised with every change of a call, a struct or a number below that a program which was built
- * before would notice. */
-#define TAPE_VERSION 1
+ * before would notice. In version 2 the long form of TAP files counts cycles, where it counted units of eight cycles. */
+#define TAPE_VERSION 2
 
 enum {
     TAPE_ACCEPTED = 0,
@@ -124,12 +124,15 @@ tape_file tape_unpack_header(const uint8_t *header, size_t len);
  * name of spaces has length 0. Refuses, in this order: 1, 8. */
 tape_span tape_shown_name(const uint8_t *header, size_t len);
 
-/* Writes durations, in cycles, as a TAP file of version 0 or 1. Version 0 has a form for the multiples of 8 from 8 to 2,048, version 1 for 0
- * and the multiples of 8 up to 134,217,720. `out` needs 20 bytes, and 1 or 4 for each duration. Refuses, in this order: 1, 11, 13, 2. */
+/* Writes durations, in cycles, as a TAP file of version 0 or 1. Version 0 has a form for the multiples of 8 from 8 to 2,048, one byte each.
+ * Version 1 has one for every duration up to 16,777,215: one byte for the multiples of 8 from 8 to 2,040, and for all others the long form,
+ * a zero byte and the cycles in three bytes, low first. `out` needs 20 bytes and those of the forms, at most 20 + 4 * count. Refuses, in
+ * this order: 1, 11, 13, 2. */
 tape_put tape_write_tap(const uint32_t *durations, size_t count, uint8_t version, uint8_t *out, size_t room);
 
-/* Reads a TAP file, and puts its durations, in cycles, at the beginning of `out`: at most one for each byte after the first 20. Refuses, in
- * this order: 10 for length and letters, 11, 10 for reserved bytes and count, 12, 2. */
+/* Reads a TAP file, and puts its durations, in cycles, at the beginning of `out`: at most one for each byte after the first 20. A byte b that
+ * is not 0 is 8b cycles. A zero byte is 2,048 cycles in version 0; in version 1 it is followed by three bytes, low first, that are the
+ * cycles. Refuses, in this order: 10 for length and letters, 11, 10 for reserved bytes and count, 12, 2. */
 tape_tap tape_read_tap(const uint8_t *file, size_t len, uint32_t *out, size_t room);
 
 /* Bytes of stack that each call needs, with its return address: read off the machine code of this archive and rounded up to a multiple of

@@ -1,4 +1,4 @@
--- The cases of document 01 that are marked P, in its order: one list of statements, and that all of them hold.
+-- The cases of document 01 that are marked P, in its order, one as document 02 corrects it: one list of statements, and that all of them hold.
 use Prim.Native.Nat.{ℕ, _+_, _*_}
 use mathlib.Core.Path.{_≡_}
 use mathlib.Core.List.{List, [], _∷_}
@@ -93,7 +93,7 @@ cases =
     ∷ (mapped durationsOf (readTap 3 (tapBytes 0 (0x2d ∷ 0x41 ∷ 0x56 ∷ []))) ≡ accepted (360 ∷ 520 ∷ 688 ∷ []))
     ∷ (mapped durationsOf (readTap 3 (tapBytes 1 (0x2d ∷ 0x41 ∷ 0x56 ∷ []))) ≡ accepted (360 ∷ 520 ∷ 688 ∷ []))
     ∷ (writeTap 23 1 (360 ∷ 520 ∷ 688 ∷ []) ≡ accepted (tapBytes 1 (0x2d ∷ 0x41 ∷ 0x56 ∷ [])))
-    -- version 1 data 00 54 03 00 is 6,816 cycles
-    ∷ (mapped durationsOf (readTap 1 (tapBytes 1 (0x00 ∷ 0x54 ∷ 0x03 ∷ 0x00 ∷ []))) ≡ accepted (6816 ∷ []))
-    ∷ (writeTap 24 1 (6816 ∷ []) ≡ accepted (tapBytes 1 (0x00 ∷ 0x54 ∷ 0x03 ∷ 0x00 ∷ [])))
+    -- version 1 data 00 54 03 00 is 852 cycles (document 02, Q-4)
+    ∷ (mapped durationsOf (readTap 1 (tapBytes 1 (0x00 ∷ 0x54 ∷ 0x03 ∷ 0x00 ∷ []))) ≡ accepted (852 ∷ []))
+    ∷ (writeTap 24 1 (852 ∷ []) ≡ accepted (tapBytes 1 (0x00 ∷ 0x54 ∷ 0x03 ∷ 0x00 ∷ [])))
     ∷ []

@@ -44,7 +44,7 @@ module _ {f : File} {out out′ : List ℕ} {count : ℕ} (sent : Sent f out cou
   pub taken : Taken (length out) f
   taken = let w = mapped-accepted length (writeFile (length out) f) (sent .promised .0) in writeFile-taken (length out) f (w .0) (w .1)
 
-  length-count : length (filePulses f) ≡ count
+  pub length-count : length (filePulses f) ≡ count
   length-count = let e = rw (writeFile-accepted (length out) f taken) at (sent .promised .0) in cc
 
   -- ---- The strip lies within its damage

@@ -2,9 +2,7 @@
 -- without one of these conversions.
 use Prim.Native.Nat.{ℕ, _*_, _/_, _%_, _^_}
 use mathlib.Core.Bool.{cond}
-use mathlib.Core.List.{[], _∷_}
 use lib.Dec.{ltb, eqb}
-use Rattle.lists.specs.Text.{fromLow}
 use Rattle.pulse.specs.declared.Cycles.{Cycles}
 use Rattle.pulse.specs.declared.Units.{Units}
 use Rattle.pulse.specs.declared.InCycles.{InCycles}
@@ -23,10 +21,6 @@ cyclesOf u = cond (ltb (u .0 * unitCycles) (2 ^ 32)) (Fits (record { 0 = u .0 * 
 -- as many units as a byte counts, in cycles: these always fit
 abbrev pub byteCycles : (units : ℕ) → ℕ
 byteCycles units = units * unitCycles
-
--- as many units as three bytes count, low first, in cycles: these always fit, too
-abbrev pub threeByteCycles : (low middle high : ℕ) → ℕ
-threeByteCycles low middle high = fromLow (low ∷ middle ∷ high ∷ []) * unitCycles
 
 -- the other way: only a multiple of a unit's cycles is a whole number of units
 unfoldable pub unitsOf : Cycles → InUnits

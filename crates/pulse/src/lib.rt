@@ -6,7 +6,7 @@
 ghost use mathlib.Core.Path.{_≡_};
 ghost use mathlib.Core.Bool.{cond};
 ghost use Rattle.pulse.specs.Pulse.{classOf, fixed, writtenAs, same};
-ghost use Rattle.pulse.specs.Units.{byteCycles, threeByteCycles, cyclesOf, unitsOf};
+ghost use Rattle.pulse.specs.Units.{byteCycles, cyclesOf, unitsOf};
 
 pub enum Class {
     Short,
@@ -145,13 +145,6 @@ pub fn byte_cycles(units: u8) -> Cycles
     ensures { λ r. ⌜ r .0 ≡ byteCycles units ⌝ }
 {
     Cycles(units as u32 * UNIT_CYCLES)
-}
-
-// The cycles of as many units as three bytes count, low first. These always fit, too.
-pub fn three_byte_cycles(low: u8, middle: u8, high: u8) -> Cycles
-    ensures { λ r. ⌜ r .0 ≡ threeByteCycles low middle high ⌝ }
-{
-    Cycles(lists::from_low(&[low, middle, high]) * UNIT_CYCLES)
 }
 
 pub fn units_of(c: Cycles) -> InUnits

@@ -6,8 +6,8 @@ use mathlib.Core.Path.{_≡_, refl, sym, ap, _∙_}
 use mathlib.Core.Bool.{true}
 use mathlib.Core.List.{List, [], _∷_, _++_, map}
 use borrow.Author.Tests.{eq-eqb, ne-eqb}
-use lib.ListN.{length, take, drop, getD, length-drop, length-map, drop-of-length-le, take-append-drop}
-use lib.Seq.{drop-cons, drop-drop, getD-drop, length-take-le}
+use lib.ListN.{length, take, drop, getD, length-take, length-drop, length-map, drop-of-length-le, take-append-drop}
+use lib.Seq.{take-all, drop-drop, getD-drop, length-take-le}
 use Rattle.lists.specs.Places.{part}
 use Rattle.lists.specs.Text.{fromLow}
 use Rattle.refusal.specs.declared.Reason.the-variants.{CutLongForm}
@@ -15,7 +15,6 @@ use Rattle.refusal.specs.Outcome.{Outcome, refused, accepted, refuse, mapped, a
 use Rattle.refusal.proofs.OutcomeLaws.{andThen-accepted, mapped-accepted, ifRoom-room}
 use Rattle.pulse.specs.Units.{unitCycles}
 use Rattle.tap.specs.Reading.{tapVersion, durationsIn, Tap, tapWith, tapOf, fitting, readTap}
-use Rattle.tap.specs.Tap.{longUnit}
 use Rattle.tap.specs.private.Forms.{noZeros, loneCycles, longCycles}
 use Rattle.tap.specs.private.Reader.{durationsFrom, Cut}
 use Rattle.tap.proofs.GroupLaws.{noZeros-cons}
@@ -67,7 +66,7 @@ durationsIn-byte at (zero ∷ bs) h n = absurd (n refl)
 durationsIn-byte at (suc b ∷ bs) h n = refl
 
 durationsIn-long : (at : ℕ) (bs : List ℕ) → 4 ≤ length bs → getD bs 0 0 ≡ 0
-    → durationsIn 1 at bs ≡ mapped (λ ds. (fromLow (part bs 1 3) * longUnit ∷ []) ++ ds) (durationsIn 1 (at + 4) (drop 4 bs))
+    → durationsIn 1 at bs ≡ mapped (λ ds. (fromLow (part bs 1 3) ∷ []) ++ ds) (durationsIn 1 (at + 4) (drop 4 bs))
 unfolding durationsIn
 durationsIn-long at [] h z = absurd (omega arith)
 durationsIn-long at (suc b ∷ bs) h z = absurd (omega arith)
@@ -141,16 +140,11 @@ module _ (bytes : List ℕ) (i : ℕ) where
 
 -- ---- What the long form counts
 
--- the three bytes after the first
-pub longCycles-bytes : (bytes : List ℕ) (i : ℕ) → i + 4 ≤ length bytes
-    → fromLow (getD bytes (i + 1) 0 ∷ getD bytes (i + 2) 0 ∷ getD bytes (i + 3) 0 ∷ []) * unitCycles ≡ longCycles bytes i
-longCycles-bytes bytes i h =
-    let three = ap (λ l. getD bytes (i + 2) 0 ∷ l) (next (i + 3) (i + 4) (omega arith) (omega arith)) in
-    let two = ap (λ l. getD bytes (i + 1) 0 ∷ l) (next (i + 2) (i + 3) (omega arith) (omega arith) ∙ three) in
-    ap (λ l. fromLow (take 3 l) * longUnit) (sym (next (i + 1) (i + 2) (omega arith) (omega arith) ∙ two))
-  where
-    next : (j k : ℕ) → j < length bytes → suc j ≡ k → drop j bytes ≡ getD bytes j 0 ∷ drop k bytes
-    next j k w e = drop-cons bytes j 0 w ∙ ap (λ n. getD bytes j 0 ∷ drop n bytes) e
+-- the part that the code lends to `from_low`, which counts no more than four bytes, has the three after the first
+pub longCycles-part : (bytes : List ℕ) (i : ℕ) → fromLow (take 4 (part bytes (i + 1) (i + 4 - (i + 1)))) ≡ longCycles bytes i
+longCycles-part bytes i =
+    let three : i + 4 - (i + 1) ≡ 3 = omega arith in
+    ap (λ n. fromLow (take 4 (part bytes (i + 1) n))) three ∙ ap fromLow (take-all 4 (part bytes (i + 1) 3) (omega (arith, length-take 3 (drop (i + 1) bytes))))
 
 -- ---- How many durations there are
 
@@ -169,7 +163,7 @@ width-durationsIn (suc v) at (zero ∷ []) ds e = absurd (let z : _≡_ {A = ℕ
 width-durationsIn (suc v) at (zero ∷ a ∷ []) ds e = absurd (let z : _≡_ {A = ℕ} 0 1 = cc in omega arith)
 width-durationsIn (suc v) at (zero ∷ a ∷ b ∷ []) ds e = absurd (let z : _≡_ {A = ℕ} 0 1 = cc in omega arith)
 width-durationsIn (suc v) at (zero ∷ a ∷ b ∷ c ∷ bs) ds e =
-    let w = mapped-width (fromLow (a ∷ b ∷ c ∷ []) * longUnit) (durationsIn (suc v) (at + 4) bs) (length bs) (width-durationsIn (suc v) (at + 4) bs) ds e in
+    let w = mapped-width (fromLow (a ∷ b ∷ c ∷ [])) (durationsIn (suc v) (at + 4) bs) (length bs) (width-durationsIn (suc v) (at + 4) bs) ds e in
     omega arith
 
 fitting-room : (room : ℕ) (t : Tap) → length (t .durations) ≤ room → fitting room t ≡ accepted t

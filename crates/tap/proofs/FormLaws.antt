@@ -1,21 +1,22 @@
 -- Laws of the form that a duration is written in.
-use Prim.Native.Nat.{ℕ, _+_, _-_, _*_, _/_, _%_, _^_, _≤_, _<_}
+use Prim.Native.Nat.{ℕ, _+_, _-_, _*_, _/_, _%_, _≤_, _<_}
 use native.Mathlib.Decide.{ℕ-discrete, decLe}
 use native.Mathlib.Numerals.{add-one}
 use native.Mathlib.Omega.{arith}
 use mathlib.Core.Path.{_≡_, refl, sym, ap, _∙_}
-use mathlib.Core.Bool.{Bool, true, false, cond, not, _&&_}
+use mathlib.Core.Logic.{_⊎_, inl, inr, ⊎-elim}
+use mathlib.Core.Bool.{true, cond, not, _&&_}
 use mathlib.Core.List.{List, [], _∷_, _++_, map, append-assoc}
-use borrow.Author.Tests.{eq-eqb, ne-eqb, le-leb, lt-leb, lt-ltb, le-ltb}
-use lib.Dec.{eqb, leb, ltb}
+use borrow.Author.Tests.{eq-eqb, ne-eqb, le-leb, lt-leb}
+use lib.Dec.{eqb, leb}
 use lib.ListN.{length, drop, getD, length-append, drop-of-length-le, take-append-drop}
 use lib.Seq.{drop-cons, drop-drop}
 use Rattle.lists.specs.Places.{part}
 use Rattle.lists.specs.Text.{lowFirst}
 use Rattle.lists.proofs.TextLaws.{length-low}
 use Rattle.pulse.specs.Units.{unitCycles}
-use Rattle.tap.specs.Tap.{longUnit, longForm, formOf, tapData, hasNoForm}
-use Rattle.tap.specs.private.Forms.{noZeros, byteUnits, otherForm}
+use Rattle.tap.specs.Tap.{longForm, formOf, tapData, hasNoForm}
+use Rattle.tap.specs.private.Forms.{noZeros, byteUnits}
 use Rattle.tap.proofs.GroupLaws.{noZeros-cons}
 
 -- ---- One byte
@@ -67,85 +68,99 @@ module _ (d : ℕ) where
     | no m ↦ absurd (n (byteUnits-between m))
   ]
 
-  pub formOf-other : (v : ℕ) → byteUnits d ≡ 0 → formOf v d ≡ otherForm v d
-  unfolding formOf
-  formOf-other v z = elim (ℕ-discrete (d % unitCycles) 0) [
-    | yes m ↦ elim (decLe 8 d) [
-      | yes a ↦ elim (decLe d 2040) [
-        | yes b ↦ absurd (let e = byteUnits-few m (omega arith) in omega arith)
-        | no b ↦ rw (eq-eqb (d % unitCycles) 0 m, le-leb 8 d a, lt-leb d 2040 (omega arith))
-      ]
-      | no a ↦ rw (eq-eqb (d % unitCycles) 0 m, lt-leb 8 d (omega arith))
-    ]
-    | no m ↦ rw (ne-eqb (d % unitCycles) 0 m)
-  ]
-
-  -- a form that was found by the units
-  module _ (v : ℕ) {u : ℕ} (e : u ≡ byteUnits d) where
-    pub formOf-byUnits : (u ≡ 0 → ⊥) → u ∷ [] ≡ formOf v d
-    formOf-byUnits n = ap (λ x. x ∷ []) e ∙ sym (formOf-units v (λ z. n (e ∙ z)))
-
-    pub formOf-byOther : {form : List ℕ} → u ≡ 0 → form ≡ otherForm v d → form ≡ formOf v d
-    formOf-byOther z q = q ∙ sym (formOf-other v (sym e ∙ z))
-
   -- ---- The long form
 
-  pub longForm-between : (d % longUnit ≡ 0 → ⊥) → longForm d ≡ []
+  longForm-fits : d ≤ 16777215 → longForm d ≡ 0 ∷ lowFirst 3 d
   unfolding longForm
-  longForm-between m = rw (ne-eqb (d % longUnit) 0 m)
+  longForm-fits h = rw (le-leb d 16777215 h)
 
-  module _ (whole : d % longUnit ≡ 0) where
-    pub longForm-fits : d / longUnit < 2 ^ 24 → longForm d ≡ 0 ∷ lowFirst 3 (d / longUnit)
-    unfolding longForm
-    longForm-fits h = rw (eq-eqb (d % longUnit) 0 whole, lt-ltb (d / longUnit) (2 ^ 24) h)
+  longForm-over : 16777215 < d → longForm d ≡ []
+  unfolding longForm
+  longForm-over h = rw (lt-leb d 16777215 h)
 
-    pub longForm-over : 2 ^ 24 ≤ d / longUnit → longForm d ≡ []
-    unfolding longForm
-    longForm-over h = rw (eq-eqb (d % longUnit) 0 whole, le-ltb (d / longUnit) (2 ^ 24) h)
+  -- ---- What is written where there is no one-byte form
 
-  -- ---- What is written otherwise
+  module _ (v : ℕ) (none : byteUnits d ≡ 0) where
+    formOf-other : formOf v d ≡ cond (eqb v 0) (cond (eqb d 2048) (0 ∷ []) []) (longForm d)
+    unfolding formOf
+    formOf-other = elim (ℕ-discrete (d % unitCycles) 0) [
+      | yes m ↦ elim (decLe 8 d) [
+        | yes a ↦ elim (decLe d 2040) [
+          | yes b ↦ absurd (let e = byteUnits-few m (omega arith) in omega arith)
+          | no b ↦ rw (eq-eqb (d % unitCycles) 0 m, le-leb 8 d a, lt-leb d 2040 (omega arith))
+        ]
+        | no a ↦ rw (eq-eqb (d % unitCycles) 0 m, lt-leb 8 d (omega arith))
+      ]
+      | no m ↦ rw (ne-eqb (d % unitCycles) 0 m)
+    ]
+
+    module _ (old : v ≡ 0) where
+      pub formOf-zero : d ≡ 2048 → formOf v d ≡ 0 ∷ []
+      formOf-zero e = formOf-other ∙ rw (eq-eqb v 0 old, eq-eqb d 2048 e)
+
+      pub formOf-missing : (d ≡ 2048 → ⊥) → formOf v d ≡ []
+      formOf-missing n = formOf-other ∙ rw (eq-eqb v 0 old, ne-eqb d 2048 n)
+
+    module _ (new : v ≡ 0 → ⊥) where
+      formOf-longForm : formOf v d ≡ longForm d
+      formOf-longForm = formOf-other ∙ rw (ne-eqb v 0 new)
+
+      pub formOf-long : d ≤ 16777215 → formOf v d ≡ 0 ∷ lowFirst 3 d
+      formOf-long h = formOf-longForm ∙ longForm-fits h
+
+      pub formOf-over : 16777215 < d → formOf v d ≡ []
+      formOf-over h = formOf-longForm ∙ longForm-over h
+
+  -- ---- The length of a form
+
+  -- by the tests that `form_width` makes
+  module _ (v : ℕ) {u : ℕ} (e : u ≡ byteUnits d) where
+    pub width-byte : (u ≡ 0 → ⊥) → 1 ≡ length (formOf v d)
+    width-byte n = sym (ap length (formOf-units v (λ z. n (e ∙ z))))
+
+    module _ (z : u ≡ 0) where
+      module _ (old : v ≡ 0) where
+        pub width-zero : d ≡ 2048 → 1 ≡ length (formOf v d)
+        width-zero q = sym (ap length (formOf-zero v (sym e ∙ z) old q))
+
+        pub width-missing : (d ≡ 2048 → ⊥) → 0 ≡ length (formOf v d)
+        width-missing n = sym (ap length (formOf-missing v (sym e ∙ z) old n))
+
+      module _ (new : v ≡ 0 → ⊥) where
+        pub width-long : d ≤ 16777215 → 4 ≡ length (formOf v d)
+        unfolding lowFirst
+        width-long h = sym (ap length (formOf-long v (sym e ∙ z) new h))
+
+        pub width-over : 16777215 < d → 0 ≡ length (formOf v d)
+        width-over h = sym (ap length (formOf-over v (sym e ∙ z) new h))
 
   module _ (v : ℕ) where
-    pub otherForm-long : (v ≡ 0 → ⊥) → otherForm v d ≡ longForm d
-    otherForm-long n = rw (ne-eqb v 0 n)
+    -- a form has one byte, which counts units or is the zero byte of version 0, or the four of the long form, or there is none
+    formOf-either : (formOf v d ≡ byteUnits d ∷ []) ⊎ ((formOf v d ≡ 0 ∷ lowFirst 3 d) ⊎ (formOf v d ≡ []))
+    formOf-either = elim (ℕ-discrete (byteUnits d) 0) [
+      | no n ↦ inl (formOf-units v n)
+      | yes z ↦ elim (ℕ-discrete v 0) [
+        | yes old ↦ elim (ℕ-discrete d 2048) [ yes e ↦ inl (formOf-zero v z old e ∙ rw z) | no n ↦ inr (inr (formOf-missing v z old n)) ]
+        | no new ↦ elim (decLe d 16777215) [ yes h ↦ inr (inl (formOf-long v z new h)) | no h ↦ inr (inr (formOf-over v z new (omega arith))) ]
+      ]
+    ]
 
-    module _ (z : v ≡ 0) where
-      pub otherForm-zero : d ≡ 2048 → otherForm v d ≡ 0 ∷ []
-      otherForm-zero e = rw (eq-eqb v 0 z, eq-eqb d 2048 e)
+    -- so its length tells which
+    pub formOf-one : length (formOf v d) ≡ 1 → formOf v d ≡ byteUnits d ∷ []
+    unfolding lowFirst
+    formOf-one l =
+        ⊎-elim (λ e. e) (λ w. ⊎-elim (λ e. absurd (let m = ap length e in omega arith)) (λ e. absurd (let m = ap length e in omega arith)) w) formOf-either
 
-      pub otherForm-missing : (d ≡ 2048 → ⊥) → otherForm v d ≡ []
-      otherForm-missing n = rw (eq-eqb v 0 z, ne-eqb d 2048 n)
+    pub formOf-four : length (formOf v d) ≡ 4 → formOf v d ≡ 0 ∷ lowFirst 3 d
+    formOf-four l = ⊎-elim (λ e. absurd (let m = ap length e in omega arith)) (λ w. ⊎-elim (λ e. e) (λ e. absurd (let m = ap length e in omega arith)) w) formOf-either
 
-    module _ (none : byteUnits d ≡ 0) where
-      pub formOf-long : (v ≡ 0 → ⊥) → formOf v d ≡ longForm d
-      formOf-long n = formOf-other v none ∙ otherForm-long n
+    pub formOf-none : (length (formOf v d) ≡ 1 → ⊥) → (length (formOf v d) ≡ 4 → ⊥) → formOf v d ≡ []
+    unfolding lowFirst
+    formOf-none m n = ⊎-elim (λ e. absurd (m (ap length e))) (λ w. ⊎-elim (λ e. absurd (n (ap length e))) (λ e. e) w) formOf-either
 
-      module _ (z : v ≡ 0) where
-        pub formOf-zero : d ≡ 2048 → formOf v d ≡ 0 ∷ []
-        formOf-zero e = formOf-other v none ∙ otherForm-zero z e
-
-        pub formOf-missing : (d ≡ 2048 → ⊥) → formOf v d ≡ []
-        formOf-missing n = formOf-other v none ∙ otherForm-missing z n
-
--- ---- The length of a form
-
-width-longForm : (d : ℕ) → length (longForm d) ≤ 4
-unfolding longForm lowFirst
-width-longForm d = go (eqb (d % longUnit) 0 && ltb (d / longUnit) (2 ^ 24))
-  where
-    go : (t : Bool) → length (cond t (0 ∷ lowFirst 3 (d / longUnit)) []) ≤ 4
-    go true = omega arith
-    go false = omega arith
-
-pub width-formOf : (v d : ℕ) → length (formOf v d) ≤ 4
-unfolding formOf
-width-formOf v d = go (eqb (d % unitCycles) 0 && leb 8 d && leb d 2040) (eqb v 0) (eqb d 2048)
-  where
-    go : (one old full : Bool) → length (cond one (d / unitCycles ∷ []) (cond old (cond full (0 ∷ []) []) (longForm d))) ≤ 4
-    go true old full = omega arith
-    go false true true = omega arith
-    go false true false = omega arith
-    go false false full = width-longForm d
+    pub width-formOf : length (formOf v d) ≤ 4
+    unfolding lowFirst
+    width-formOf = ⊎-elim (λ e. rw e (omega arith)) (λ w. ⊎-elim (λ e. rw e (omega arith)) (λ e. rw e (omega arith)) w) formOf-either
 
 -- ---- tapData
 
@@ -185,7 +200,7 @@ tapData-units v (d ∷ ds) e =
 pub width-tapData : (v : ℕ) (ds : List ℕ) → length (tapData v ds) ≤ 4 * length ds
 unfolding tapData
 width-tapData v [] = omega arith
-width-tapData v (d ∷ ds) = rw length-append (omega (arith, width-formOf v d, width-tapData v ds))
+width-tapData v (d ∷ ds) = rw length-append (omega (arith, width-formOf d v, width-tapData v ds))
 
 -- ---- Which durations have a form
 
@@ -205,18 +220,15 @@ without-zero d = elim (ℕ-discrete (d % 8) 0) [
   ]
 ]
 
--- version 1 writes 0 and the multiples of 8 up to 134,217,720
-pub without-one : (d : ℕ) → hasNoForm 1 d ≡ not (eqb (d % 8) 0 && leb d 134217720)
+-- version 1 writes the durations up to 16,777,215
+pub without-one : (d : ℕ) → hasNoForm 1 d ≡ not (leb d 16777215)
 without-one d = elim (ℕ-discrete (byteUnits d) 0) [
   | no n ↦
       let e = byteUnits-cycles d n in
       let h = byteUnits-le d in
-      rw (formOf-units d 1 n, eq-eqb (d % 8) 0 (omega arith), le-leb d 134217720 (omega arith))
-  | yes z ↦ elim (ℕ-discrete (d % 8) 0) [
-    | no m ↦ rw (formOf-long d 1 z (λ e. omega arith), longForm-between d m, ne-eqb (d % 8) 0 m)
-    | yes m ↦ elim (decLe d 134217720) [
-      | yes h ↦ rw (formOf-long d 1 z (λ e. omega arith), longForm-fits d m (omega arith), length-low, eq-eqb (d % 8) 0 m, le-leb d 134217720 h)
-      | no h ↦ rw (formOf-long d 1 z (λ e. omega arith), longForm-over d m (omega arith), eq-eqb (d % 8) 0 m, lt-leb d 134217720 (omega arith))
-    ]
+      rw (formOf-units d 1 n, le-leb d 16777215 (omega arith))
+  | yes z ↦ elim (decLe d 16777215) [
+    | yes h ↦ rw (formOf-long d 1 z (λ e. omega arith) h, length-low, le-leb d 16777215 h)
+    | no h ↦ rw (formOf-over d 1 z (λ e. omega arith) (omega arith), lt-leb d 16777215 (omega arith))
   ]
 ]

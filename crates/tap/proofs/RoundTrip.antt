@@ -1,6 +1,6 @@
 -- Reading what was written: the header gives the version, each form its duration, and with them the file what was lent to the writer.
-use Prim.Native.Nat.{ℕ, zero, suc, _+_, _*_, _/_, _%_, _^_, _≤_, _<_}
-use native.Mathlib.Decide.{ℕ-discrete, decLt}
+use Prim.Native.Nat.{ℕ, zero, suc, _+_, _*_, _^_, _≤_, _<_}
+use native.Mathlib.Decide.{ℕ-discrete, decLe}
 use native.Mathlib.Omega.{arith}
 use mathlib.Core.Path.{_≡_, refl, sym, ap, _∙_}
 use mathlib.Core.Bool.{false}
@@ -23,11 +23,11 @@ use Rattle.refusal.specs.Promise.{Written}
 use Rattle.refusal.proofs.OutcomeLaws.{cond-accepted, refuseFirst-accepted, andThen-accepted, mapped-accepted, ifRoom-accepted, ifRoom-room}
 use Rattle.pulse.specs.Units.{unitCycles}
 use Rattle.tap.specs.declared.TapAnswer.{TapAnswer}
-use Rattle.tap.specs.Tap.{letters, longUnit, tapHeader, formOf, tapData, tapFile, wrongVersion, hasNoForm, firstWithout, dataOf, putFile, writeTap}
+use Rattle.tap.specs.Tap.{letters, tapHeader, formOf, tapData, tapFile, wrongVersion, hasNoForm, firstWithout, dataOf, putFile, writeTap}
 use Rattle.tap.specs.Reading.{wrongLetters, wrongCount, tapVersion, durationsIn, Tap, tapWith, tapOf, fitting, readTap, TapPromise}
 use Rattle.tap.specs.Claim.{TapReturned, Writable, RoundTrip}
 use Rattle.tap.specs.private.Forms.{byteUnits}
-use Rattle.tap.proofs.FormLaws.{byteUnits-cycles, formOf-units, formOf-zero, formOf-missing, formOf-long, longForm-between, longForm-fits, longForm-over, width-tapData, without-zero, without-one}
+use Rattle.tap.proofs.FormLaws.{byteUnits-cycles, formOf-units, formOf-zero, formOf-missing, formOf-long, formOf-over, width-tapData, without-zero, without-one}
 use Rattle.tap.proofs.WriterLaws.{length-tapFile}
 
 -- ---- The header
@@ -74,7 +74,7 @@ module _ (v : ℕ) (bytes : List ℕ) where
 -- ---- One form
 
 durationsIn-lowFirst : (v at : ℕ) (bs : List ℕ) → (v ≡ 0 → ⊥) → (n : ℕ)
-    → durationsIn v at (0 ∷ lowFirst 3 n ++ bs) ≡ mapped (λ ds. fromLow (lowFirst 3 n) * longUnit ∷ ds) (durationsIn v (at + 4) bs)
+    → durationsIn v at (0 ∷ lowFirst 3 n ++ bs) ≡ mapped (λ ds. fromLow (lowFirst 3 n) ∷ ds) (durationsIn v (at + 4) bs)
 unfolding durationsIn lowFirst
 durationsIn-lowFirst zero at bs z n = absurd (z refl)
 durationsIn-lowFirst (suc v) at bs z n = refl
@@ -89,8 +89,8 @@ module _ (v at : ℕ) (bs : List ℕ) where
   unfolding durationsIn
   durationsIn-zero e = rw e
 
-  durationsIn-longForm : (v ≡ 0 → ⊥) → (n : ℕ) → n < 256 ^ 3 → durationsIn v at (0 ∷ lowFirst 3 n ++ bs) ≡ mapped (λ ds. n * longUnit ∷ ds) (durationsIn v (at + 4) bs)
-  durationsIn-longForm z n h = durationsIn-lowFirst v at bs z n ∙ ap (λ m. mapped (λ ds. m * longUnit ∷ ds) (durationsIn v (at + 4) bs)) (from-low 3 n h)
+  durationsIn-longForm : (v ≡ 0 → ⊥) → (n : ℕ) → n < 256 ^ 3 → durationsIn v at (0 ∷ lowFirst 3 n ++ bs) ≡ mapped (λ ds. n ∷ ds) (durationsIn v (at + 4) bs)
+  durationsIn-longForm z n h = durationsIn-lowFirst v at bs z n ∙ ap (λ m. mapped (λ ds. m ∷ ds) (durationsIn v (at + 4) bs)) (from-low 3 n h)
 
   -- a form is read as its duration
   durationsIn-formOf : (d : ℕ) → (length (formOf v d) ≡ 0 → ⊥) → durationsIn v at (formOf v d ++ bs) ≡ mapped (λ ds. d ∷ ds) (durationsIn v (at + length (formOf v d)) bs)
@@ -101,15 +101,9 @@ module _ (v at : ℕ) (bs : List ℕ) where
         | yes f ↦ rw (formOf-zero d v z e f) (durationsIn-zero e ∙ rw f)
         | no f ↦ absurd (has (ap length (formOf-missing d v z e f)))
       ]
-      | no e ↦ elim (ℕ-discrete (d % longUnit) 0) [
-        | yes m ↦ elim (decLt (d / longUnit) (2 ^ 24)) [
-          | yes h ↦
-              let q : d / longUnit * longUnit ≡ d = omega arith in
-              rw (formOf-long d v z e, longForm-fits d m h, length-low)
-              (durationsIn-longForm e (d / longUnit) h ∙ ap (λ x. mapped (λ ds. x ∷ ds) (durationsIn v (at + 4) bs)) q)
-          | no h ↦ absurd (has (ap length (formOf-long d v z e ∙ longForm-over d m (omega arith))))
-        ]
-        | no m ↦ absurd (has (ap length (formOf-long d v z e ∙ longForm-between d m)))
+      | no e ↦ elim (decLe d 16777215) [
+        | yes h ↦ rw (formOf-long d v z e h, length-low) (durationsIn-longForm e d (omega arith))
+        | no h ↦ absurd (has (ap length (formOf-over d v z e (omega arith))))
       ]
     ]
   ]

@@ -1,25 +1,18 @@
--- What a duration in units comes to: the units that one byte counts, and the long form.
-use Prim.Native.Nat.{_^_, _≤_, _<_}
-use mathlib.Core.Path.{_≡_, sym, ap, _∙_}
-use mathlib.Core.List.{[], _∷_}
-use Rattle.lists.specs.Text.{lowFirst}
+-- What a duration in units comes to: the units that one byte counts.
+use Prim.Native.Nat.{_≤_, _<_}
+use mathlib.Core.Path.{_≡_, sym, _∙_}
 use Rattle.pulse.specs.declared.Cycles.{Cycles}
 use Rattle.pulse.specs.declared.Units.{Units}
 use Rattle.pulse.specs.declared.InUnits.{InUnits}
 use Rattle.pulse.specs.declared.InUnits.the-variants.{Whole, Between}
 use Rattle.pulse.specs.Units.{unitsOf}
 use Rattle.pulse.proofs.UnitLaws.{between-units, whole-units}
-use Rattle.tap.specs.Tap.{longForm}
 use Rattle.tap.specs.private.Forms.{byteUnits}
-use Rattle.tap.proofs.FormLaws.{byteUnits-between, byteUnits-few, byteUnits-many, longForm-between, longForm-fits, longForm-over}
+use Rattle.tap.proofs.FormLaws.{byteUnits-between, byteUnits-few, byteUnits-many}
 
 module _ (c : Cycles) {r : InUnits} (e : r ≡ unitsOf c) where
-  module _ (q : r ≡ Between) where
-    pub unitsOf-none : 0 ≡ byteUnits (c .0)
-    unitsOf-none = sym (byteUnits-between (c .0) (between-units c e q))
-
-    pub unitsOf-noForm : [] ≡ longForm (c .0)
-    unitsOf-noForm = sym (longForm-between (c .0) (between-units c e q))
+  pub unitsOf-none : r ≡ Between → 0 ≡ byteUnits (c .0)
+  unitsOf-none q = sym (byteUnits-between (c .0) (between-units c e q))
 
   module _ {u : Units} (q : r ≡ Whole u) where
     pub unitsOf-few : u .0 ≤ 255 → u .0 ≡ byteUnits (c .0)
@@ -27,9 +20,3 @@ module _ (c : Cycles) {r : InUnits} (e : r ≡ unitsOf c) where
 
     pub unitsOf-many : 255 < u .0 → 0 ≡ byteUnits (c .0)
     unitsOf-many h = let w = whole-units c e q in sym (byteUnits-many (c .0) (w .0) (rw (w .1) at h))
-
-    pub unitsOf-fits : u .0 < 2 ^ 24 → 0 ∷ lowFirst 3 (u .0) ≡ longForm (c .0)
-    unitsOf-fits h = let w = whole-units c e q in ap (λ n. 0 ∷ lowFirst 3 n) (w .1) ∙ sym (longForm-fits (c .0) (w .0) (rw (w .1) at h))
-
-    pub unitsOf-over : 2 ^ 24 ≤ u .0 → [] ≡ longForm (c .0)
-    unitsOf-over h = let w = whole-units c e q in sym (longForm-over (c .0) (w .0) (rw (w .1) at h))

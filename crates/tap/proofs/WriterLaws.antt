@@ -5,7 +5,7 @@ use native.Mathlib.Decide.{decLt}
 use native.Mathlib.Omega.{arith}
 use mathlib.Core.Path.{_≡_, refl, sym, ap, _∙_}
 use mathlib.Core.Bool.{Bool, true, false, _||_}
-use mathlib.Core.List.{List, _∷_, _++_}
+use mathlib.Core.List.{List, [], _∷_, _++_}
 use mathlib.Core.Option.{Option, none, some}
 use borrow.Author.Tests.{eq-eqb, ne-eqb, lt-ltb, le-ltb}
 use lib.Dec.{eqb}
@@ -24,8 +24,8 @@ use Rattle.refusal.specs.Promise.{putAnswer, Written}
 use Rattle.refusal.proofs.OutcomeLaws.{refuseFirst-accepted, mapped-refused, mapped-accepted, ifRoom-noRoom, ifRoom-room}
 use Rattle.refusal.proofs.PromiseLaws.{written-refused, written-accepted}
 use Rattle.tap.specs.Tap.{tapHeader, formOf, tapData, tapFile, hasNoForm, firstWithout, dataOf, putFile, writeTap}
-use Rattle.tap.specs.private.Forms.{isFound, isMissing}
-use Rattle.tap.proofs.FormLaws.{width-formOf, FormsBetween, tapData-next, tapData-over}
+use Rattle.tap.specs.private.Forms.{byteUnits, isFound, isMissing}
+use Rattle.tap.proofs.FormLaws.{formOf-one, formOf-four, formOf-none, width-formOf, FormsBetween, tapData-next, tapData-over}
 
 -- a long form is stored byte by byte
 pub sets-longForm : (out : List ℕ) (at n : ℕ) {a b c : ℕ} → a ≡ getD (lowFirst 4 n) 0 0 → b ≡ getD (lowFirst 4 n) 1 0 → c ≡ getD (lowFirst 4 n) 2 0
@@ -36,6 +36,21 @@ sets-longForm out at n p q r =
     let y : at + 2 ≡ suc (suc at) = omega arith in
     let z : at + 3 ≡ suc (suc (suc at)) = omega arith in
     rw (x, y, z, p, q, r)
+
+-- ---- The form of one duration
+
+module _ (out : List ℕ) (at v d : ℕ) {w : ℕ} (e : w ≡ length (formOf v d)) where
+  pub putForm-one : w ≡ 1 → {b : ℕ} → b ≡ byteUnits d → (at + 1 ≡ at + length (formOf v d)) × (set out at b ≡ sets out at (formOf v d))
+  putForm-one q p = (omega arith, ap (set out at) p ∙ ap (sets out at) (sym (formOf-one d v (sym e ∙ q))))
+
+  pub putForm-four : w ≡ 4 → {out′ : List ℕ} → out′ ≡ sets out at (0 ∷ lowFirst 3 d) → (at + 4 ≡ at + length (formOf v d)) × (out′ ≡ sets out at (formOf v d))
+  putForm-four q p = (omega arith, p ∙ ap (sets out at) (sym (formOf-four d v (sym e ∙ q))))
+
+  pub putForm-none : (w ≡ 1 → ⊥) → (w ≡ 4 → ⊥) → (at ≡ at + length (formOf v d)) × (out ≡ sets out at (formOf v d))
+  putForm-none m n =
+      let q : formOf v d ≡ [] = formOf-none d v (λ l. m (e ∙ l)) (λ l. n (e ∙ l)) in
+      let l = ap length q in
+      (omega arith, ap (sets out at) (sym q))
 
 -- ---- Measuring
 
@@ -76,7 +91,7 @@ module _ (v : ℕ) (ds : List ℕ) where
     pub measure-next : {w : ℕ} → i < length ds → w ≡ length (formOf v (getD ds i 0)) → MeasuredForms (i + 1) (n + w) (missing || eqb w 0)
     measure-next {w} h e =
         let s = ap length (tapData-next v ds i h .bytes) ∙ length-append (formOf v (getD ds i 0)) (tapData v (drop (i + 1) ds)) in
-        let f = width-formOf v (getD ds i 0) in
+        let f = width-formOf (getD ds i 0) v in
         record {
           within = omega arith;
           few = omega (arith, u .few);
@@ -145,14 +160,6 @@ module _ (v : ℕ) (ds : List ℕ) where
 
       pub dataPut-next : {out′ : List ℕ} {at′ : ℕ} → out′ ≡ sets out at forms → at′ ≡ at + length forms → DataPut out′ i′ at′
       dataPut-next q l = record { within = s .within; end = omega (arith, more, u .end); put = put-next (u .put) forms (tapData v (drop i′ ds)) (s .bytes) q l }
-
-    -- the form of one duration
-    module _ {out : List ℕ} {i at : ℕ} (u : DataPut out i at) (h : i < length ds) {form : List ℕ} (e : form ≡ formOf v (getD ds i 0)) where
-      pub dataPut-formRoom : start + length (tapData v ds) ≤ length before → at + length form ≤ length out
-      dataPut-formRoom r = rw e (dataPut-room u (tapData-next v ds i h) r)
-
-      pub dataPut-form : {out′ : List ℕ} {at′ : ℕ} → out′ ≡ sets out at form → at′ ≡ at + length form → DataPut out′ (i + 1) at′
-      dataPut-form q l = dataPut-next u (tapData-next v ds i h) (q ∙ ap (sets out at) e) (l ∙ ap (λ f. at + length f) e)
 
     module _ {out : List ℕ} {i at : ℕ} (u : DataPut out i at) (h : length ds ≤ i) where
       pub dataPut-end : at ≡ start + length (tapData v ds)

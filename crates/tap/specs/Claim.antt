@@ -1,4 +1,4 @@
--- What holds between the TAP writer and the TAP reader (document 01, 'TAP files').
+-- What holds between the TAP writer and the TAP reader (document 01, 'TAP files', and document 02, Q-4).
 use Prim.Native.Nat.{ℕ, _%_, _≤_, _<_}
 use mathlib.Core.Path.{_≡_}
 use mathlib.Core.Bool.{false, not, _&&_}
@@ -38,5 +38,5 @@ pub record RoundTrip : Type 0 where
       → writeTap room version durations ≡ accepted (tapFile version (tapData version durations))
   -- version 0 has a form for the multiples of 8 from 8 to 2,048
   pub zero : (d : ℕ) → hasNoForm 0 d ≡ not (eqb (d % 8) 0 && leb 8 d && leb d 2048)
-  -- version 1 has a form for 0 and the multiples of 8 up to 134,217,720
-  pub one : (d : ℕ) → hasNoForm 1 d ≡ not (eqb (d % 8) 0 && leb d 134217720)
+  -- version 1 has a form for the durations up to 16,777,215, and for no others
+  pub one : (d : ℕ) → hasNoForm 1 d ≡ not (leb d 16777215)

@@ -1,4 +1,4 @@
--- Reading TAP files (document 01, 'TAP files').
+-- Reading TAP files (document 01, 'TAP files', and document 02, Q-4).
 use Prim.Native.Nat.{ℕ, zero, suc, _+_, _*_}
 use mathlib.Core.Bool.{Bool, cond, not, _||_}
 use mathlib.Core.List.{List, [], _∷_}
@@ -13,7 +13,7 @@ use Rattle.pulse.specs.Units.{unitCycles}
 use Rattle.tap.specs.declared.TapInfo.{TapInfo}
 use Rattle.tap.specs.declared.TapAnswer.{TapAnswer}
 use Rattle.tap.specs.declared.TapAnswer.the-variants.{Accepted, Refused}
-use Rattle.tap.specs.Tap.{letters, zeroCycles, longUnit, wrongVersion}
+use Rattle.tap.specs.Tap.{letters, zeroCycles, wrongVersion}
 
 -- ---- The header
 
@@ -42,9 +42,9 @@ durationsIn version at [] = accepted []
 durationsIn version at (suc b ∷ bytes) = mapped (λ ds. suc b * unitCycles ∷ ds) (durationsIn version (at + 1) bytes)
 -- in version 0 a zero byte is read as 2,048 cycles
 durationsIn zero at (zero ∷ bytes) = mapped (λ ds. zeroCycles ∷ ds) (durationsIn zero (at + 1) bytes)
--- in version 1 it is followed by three bytes, low first
+-- in version 1 it is followed by three bytes, low first, that count single cycles
 durationsIn (suc version) at (zero ∷ low ∷ middle ∷ high ∷ bytes) =
-    mapped (λ ds. fromLow (low ∷ middle ∷ high ∷ []) * longUnit ∷ ds) (durationsIn (suc version) (at + 4) bytes)
+    mapped (λ ds. fromLow (low ∷ middle ∷ high ∷ []) ∷ ds) (durationsIn (suc version) (at + 4) bytes)
 -- fewer than three bytes after it
 durationsIn (suc version) at (zero ∷ low ∷ middle ∷ []) = refuse CutLongForm at
 durationsIn (suc version) at (zero ∷ low ∷ []) = refuse CutLongForm at

@@ -1,5 +1,5 @@
--- TAP files as written (document 01, 'TAP files').
-use Prim.Native.Nat.{ℕ, _/_, _%_, _^_}
+-- TAP files as written (document 01, 'TAP files', and document 02, Q-4).
+use Prim.Native.Nat.{ℕ, _/_, _%_}
 use mathlib.Core.Bool.{Bool, cond, _&&_}
 use mathlib.Core.List.{List, [], _∷_, _++_}
 use mathlib.Core.Option.{Option}
@@ -24,13 +24,9 @@ tapHeader version count = letters ++ version ∷ 0 ∷ 0 ∷ 0 ∷ lowFirst 4 co
 abbrev pub zeroCycles : ℕ
 zeroCycles = 2048
 
--- cycles that one count of the long form stands for: following source document 003's own example it counts in units, until a real tape shows otherwise
-abbrev pub longUnit : ℕ
-longUnit = unitCycles
-
--- a zero byte followed by three bytes, low first, for the counts that three bytes hold: 0 to 16,777,215, which is 134,217,720 cycles
+-- the long form, for the durations that three bytes hold: a zero byte followed by three bytes, low first, that count single cycles
 unfoldable pub longForm : (duration : ℕ) → List ℕ
-longForm d = cond (eqb (d % longUnit) 0 && ltb (d / longUnit) (2 ^ 24)) (0 ∷ lowFirst 3 (d / longUnit)) []
+longForm d = cond (leb d 16777215) (0 ∷ lowFirst 3 d) []
 
 -- the bytes that a duration is written as; none where it has no form in this version
 unfoldable pub formOf : (version duration : ℕ) → List ℕ
@@ -39,7 +35,7 @@ formOf version d =
     cond (eqb (d % unitCycles) 0 && leb 8 d && leb d 2040) (d / unitCycles ∷ [])
     -- version 0 writes 2,048 as a zero byte
     (cond (eqb version 0) (cond (eqb d zeroCycles) (0 ∷ []) [])
-    -- version 1 writes 0, and multiples of 8 from 2,048 to 134,217,720, in the long form
+    -- version 1 writes all others up to 16,777,215 in the long form
     (longForm d))
 
 -- the forms one after the other; a duration without one, which the writer refuses, leaves nothing

@@ -1,18 +1,16 @@
-// The forms of durations in the data: what each stands for, and which one a duration is written in.
+// The forms of durations in the data: what each stands for, and how many bytes a duration takes.
 //
 //   u, not 0        u units of eight cycles
 //   0               in version 0: 2,048 cycles
-//   0, a, b, c      in version 1, the long form: as many units of eight cycles as the three bytes count, low first
-//
-// Whether the long form counts units is disputed: in code `long_cycles` and `long_form` say it.
+//   0, a, b, c      in version 1, the long form: as many cycles as the three bytes count, low first
 use pulse::Cycles;
 use pulse::InUnits;
 use pulse::Units;
 ghost use Prim.Native.Nat.{_+_, _≤_, _<_};
 ghost use mathlib.Core.Path.{_≡_};
 ghost use lib.ListN.{length};
-ghost use Rattle.tap.specs.Tap.{longForm, formOf};
-ghost use Rattle.tap.specs.private.Forms.{loneCycles, longCycles, byteUnits, otherForm, formBytes};
+ghost use Rattle.tap.specs.Tap.{formOf};
+ghost use Rattle.tap.specs.private.Forms.{loneCycles, longCycles, byteUnits};
 
 // What a zero byte stands for in version 0.
 const ZERO_CYCLES: Cycles = Cycles(2048);
@@ -23,8 +21,8 @@ const MOST_BYTE_UNITS: Units = Units(255);
 // A long form is a zero byte and three bytes of count.
 pub const LONG_BYTES: usize = 4;
 
-// How many counts the long form has: those that three bytes hold.
-const LONG_COUNTS: u32 = 0x100_0000;
+// The most that three bytes count.
+const MOST_LONG_CYCLES: Cycles = Cycles(0xff_ffff);
 
 // What a byte stands for that is a form by itself.
 pub fn lone_cycles(b: u8) -> Cycles
@@ -41,7 +39,7 @@ pub fn long_cycles(bytes: &[u8], i: usize) -> Cycles
     requires { ⌜ i + 4 ≤ length (now bytes) ⌝ }
     ensures { λ r. ⌜ r .0 ≡ longCycles (now (bytes .entry)) i ⌝ }
 {
-    pulse::three_byte_cycles(bytes[i + 1], bytes[i + 2], bytes[i + 3])
+    Cycles(lists::from_low(&bytes[i + 1..i + LONG_BYTES]))
 }
 
 // The units of a duration that one byte counts; 0 where it has no such form.
@@ -58,55 +56,21 @@ pub fn byte_units(duration: Cycles) -> Units
     Units(0)
 }
 
-// How a duration is written.
-pub enum Form {
-    Byte(u8),
-    Long(Units),
-    Missing,
-}
-
-pub fn form_of(version: u8, duration: Cycles) -> Form
-    ensures { λ r. ⌜ formBytes r ≡ formOf version (duration .0) ⌝ }
+// How many bytes a duration is written in; 0 where it has no form. The writer adds these up, in 32 bits.
+pub fn form_width(version: u8, duration: Cycles) -> u32
+    ensures { λ r. ⌜ r ≡ length (formOf version (duration .0)) ⌝ }
 {
-    let units = byte_units(duration);
-    if units.0 != 0 {
-        return Form::Byte(units.0 as u8);
+    if byte_units(duration).0 != 0 {
+        return 1;
     }
-    other_form(version, duration)
-}
-
-// How a duration is written that has no one-byte form.
-pub fn other_form(version: u8, duration: Cycles) -> Form
-    ensures { λ r. ⌜ formBytes r ≡ otherForm version (duration .0) ⌝ }
-{
-    if version != 0 {
-        return long_form(duration);
+    if version == 0 {
+        if duration.0 == ZERO_CYCLES.0 {
+            return 1;
+        }
+        return 0;
     }
-    if duration.0 == ZERO_CYCLES.0 {
-        return Form::Byte(0);
+    if duration.0 <= MOST_LONG_CYCLES.0 {
+        return LONG_BYTES as u32;
     }
-    Form::Missing
-}
-
-fn long_form(duration: Cycles) -> Form
-    ensures { λ r. ⌜ formBytes r ≡ longForm (duration .0) ⌝ }
-{
-    let InUnits::Whole(count) = pulse::units_of(duration) else {
-        return Form::Missing;
-    };
-    if count.0 < LONG_COUNTS {
-        return Form::Long(count);
-    }
-    Form::Missing
-}
-
-// How many bytes a form has.
-pub fn form_length(form: Form) -> usize
-    ensures { λ r. ⌜ r ≡ length (formBytes form) ⌝ }
-{
-    match form {
-        Form::Byte(_) => 1,
-        Form::Long(_) => LONG_BYTES,
-        Form::Missing => 0,
-    }
+    0
 }

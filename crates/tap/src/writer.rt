@@ -2,11 +2,10 @@
 // the forms are put.
 use super::TAP_HEADER_BYTES;
 use super::forms;
-use super::forms::Form;
+use super::forms::LONG_BYTES;
 use super::groups;
 use super::header;
 use pulse::Cycles;
-use pulse::Units;
 use refusal::Put;
 use refusal::Reason;
 ghost use Prim.Native.Nat.{_+_, _≤_};
@@ -19,8 +18,8 @@ ghost use lib.Seq.{sets};
 ghost use Rattle.lists.specs.Text.{lowFirst};
 ghost use Rattle.refusal.specs.Outcome.{mapped};
 ghost use Rattle.refusal.specs.Promise.{putAnswer, Written};
-ghost use Rattle.tap.specs.Tap.{tapData, firstWithout, dataOf, putFile};
-ghost use Rattle.tap.specs.private.Forms.{noZeros, byteUnits, formBytes, isMissing};
+ghost use Rattle.tap.specs.Tap.{formOf, tapData, firstWithout, dataOf, putFile};
+ghost use Rattle.tap.specs.private.Forms.{noZeros, byteUnits, isMissing};
 
 // How many data bytes the durations take, or the first that has no form.
 pub fn measure_forms(version: u8, durations: &[u32]) -> Put
@@ -51,7 +50,7 @@ fn sum_widths(version: u8, durations: &[u32]) -> Widths
     let mut missing = false;
     while i < durations.len() {
         let duration = Cycles(durations[i]);
-        let width = forms::form_length(forms::form_of(version, duration)) as u32;
+        let width = forms::form_width(version, duration);
         bytes = bytes + width;
         missing = missing | (width == 0);
         i = i + 1;
@@ -65,7 +64,7 @@ fn first_without(version: u8, durations: &[u32]) -> usize
     ensures { λ r. ⌜ firstWithout version (now (durations .entry)) ≡ some r ⌝ }
 {
     let mut i: usize = 0;
-    while forms::form_length(forms::form_of(version, Cycles(durations[i]))) != 0 {
+    while forms::form_width(version, Cycles(durations[i])) != 0 {
         i = i + 1;
     }
     i
@@ -140,6 +139,7 @@ fn put_units(durations: &[u32], out: &mut [u8], at: usize)
     }
 }
 
+// Puts the forms one by one.
 fn put_each(version: u8, durations: &[u32], out: &mut [u8], start: usize) -> usize
     requires { ⌜ start + length (tapData version (now durations)) ≤ length (now out) ⌝ }
     ensures { λ r. ⌜ r ≡ start + length (tapData version (now (durations .entry))) ⌝ }
@@ -148,38 +148,37 @@ fn put_each(version: u8, durations: &[u32], out: &mut [u8], start: usize) -> usi
     let mut i: usize = 0;
     let mut at = start;
     while i < durations.len() {
-        let duration = Cycles(durations[i]);
-        let units = forms::byte_units(duration);
-        if units.0 != 0 {
-            out[at] = units.0 as u8;
-            at = at + 1;
-        } else {
-            let form = forms::other_form(version, duration);
-            put_form(form, out, at);
-            at = at + forms::form_length(form);
-        }
+        at = put_form(version, Cycles(durations[i]), out, at);
         i = i + 1;
     }
     at
 }
 
-fn put_form(form: Form, out: &mut [u8], at: usize)
-    requires { ⌜ at + length (formBytes form) ≤ length (now out) ⌝ }
-    ensures { λ _. ⌜ now (out .exit) ≡ sets (now (out .entry)) at (formBytes form) ⌝ }
+// Puts the form of a duration, where it has one, and answers the place after it. A form of one byte is the duration's units; the 2,048 cycles
+// of version 0 are more than a byte counts, and `byte_units` gives the 0 that stands for them.
+fn put_form(version: u8, duration: Cycles, out: &mut [u8], at: usize) -> usize
+    requires { ⌜ at + length (formOf version (duration .0)) ≤ length (now out) ⌝ }
+    ensures { λ r. ⌜ r ≡ at + length (formOf version (duration .0)) ⌝ }
+    ensures { λ r. ⌜ now (out .exit) ≡ sets (now (out .entry)) at (formOf version (duration .0)) ⌝ }
 {
-    match form {
-        Form::Byte(b) => out[at] = b,
-        Form::Long(count) => put_long(count, out, at),
-        Form::Missing => {}
+    let width = forms::form_width(version, duration) as usize;
+    if width == 1 {
+        out[at] = forms::byte_units(duration).0 as u8;
+        return at + 1;
     }
+    if width == LONG_BYTES {
+        put_long(duration, out, at);
+        return at + LONG_BYTES;
+    }
+    at
 }
 
-fn put_long(count: Units, out: &mut [u8], at: usize)
+fn put_long(duration: Cycles, out: &mut [u8], at: usize)
     requires { ⌜ at + 4 ≤ length (now out) ⌝ }
-    ensures { λ _. ⌜ now (out .exit) ≡ sets (now (out .entry)) at (0 ∷ lowFirst 3 (count .0)) ⌝ }
+    ensures { λ _. ⌜ now (out .exit) ≡ sets (now (out .entry)) at (0 ∷ lowFirst 3 (duration .0)) ⌝ }
 {
     out[at] = 0;
-    out[at + 1] = lists::low_byte(count.0, 0);
-    out[at + 2] = lists::low_byte(count.0, 1);
-    out[at + 3] = lists::low_byte(count.0, 2);
+    out[at + 1] = lists::low_byte(duration.0, 0);
+    out[at + 2] = lists::low_byte(duration.0, 1);
+    out[at + 3] = lists::low_byte(duration.0, 2);
 }

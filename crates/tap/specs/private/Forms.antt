@@ -1,15 +1,13 @@
--- The forms of durations: what each stands for, which one a duration is written in, and whether all have one.
+-- The forms of durations: what each stands for, what one byte counts of a duration, and whether all have a form.
 use Prim.Native.Nat.{ℕ, _+_, _*_, _/_, _%_}
 use mathlib.Core.Bool.{Bool, true, false, cond, not, _&&_}
 use mathlib.Core.List.{List, [], _∷_}
 use mathlib.Core.Option.{Option, none, some}
 use lib.Dec.{eqb, leb}
 use Rattle.lists.specs.Places.{part}
-use Rattle.lists.specs.Text.{lowFirst, fromLow}
+use Rattle.lists.specs.Text.{fromLow}
 use Rattle.pulse.specs.Units.{unitCycles}
-use Rattle.tap.specs.declared.forms.Form.{Form}
-use Rattle.tap.specs.declared.forms.Form.the-variants.{Byte, Long, Missing}
-use Rattle.tap.specs.Tap.{zeroCycles, longUnit, longForm, firstWithout}
+use Rattle.tap.specs.Tap.{zeroCycles, firstWithout}
 
 -- ---- Groups
 
@@ -25,22 +23,13 @@ loneCycles b = cond (eqb b 0) zeroCycles (b * unitCycles)
 
 -- what the long form stands for that begins at a place
 abbrev pub longCycles : (bytes : List ℕ) (i : ℕ) → ℕ
-longCycles bytes i = fromLow (part bytes (i + 1) 3) * longUnit
+longCycles bytes i = fromLow (part bytes (i + 1) 3)
 
--- ---- What a duration is written in
+-- ---- Which durations have a form
 
 -- the units of a duration that one byte counts, or 0
 unfoldable pub byteUnits : (duration : ℕ) → ℕ
 byteUnits d = cond (eqb (d % unitCycles) 0 && leb (d / unitCycles) 255) (d / unitCycles) 0
-
--- what is written where there is no one-byte form
-abbrev pub otherForm : (version duration : ℕ) → List ℕ
-otherForm version d = cond (eqb version 0) (cond (eqb d zeroCycles) (0 ∷ []) []) (longForm d)
-
-abbrev pub formBytes : Form → List ℕ
-formBytes (Byte b) = b ∷ []
-formBytes (Long count) = 0 ∷ lowFirst 3 (count .0)
-formBytes Missing = []
 
 abbrev pub isFound : Option ℕ → Bool
 isFound none = false

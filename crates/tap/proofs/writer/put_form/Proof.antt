@@ -1,32 +1,44 @@
--- `tap::writer::put_form` meets its contract, case by case.
-use native.Mathlib.Omega.{arith}
-use mathlib.Core.Path.{_∙_}
+-- `tap::writer::put_form` meets its contract: the width tells the form.
 use borrow.Author.Needs.{needs}
-use Rattle.lists.specs.Text.{lowFirst}
+use denote.Ref.{now}
+use Rattle.tap.proofs.WriterLaws.{putForm-one, putForm-four, putForm-none}
 use Rattle.tap.proofs.writer.put_form.Statement.{statement}
 use Rattle.tap.proofs.writer.put_form.Tie as tie
 
-enum-known-form : tie.Need-enum-known-form
-enum-known-form c = search needs
+form-width-requires : tie.Need-form-width-requires
+form-width-requires c κs = search needs
+
+cast-width : tie.Need-cast-width
+cast-width c = search needs
+
+byte-units-requires : tie.Need-byte-units-requires
+byte-units-requires c κs = search needs
+
+cast-out : tie.Need-cast-out
+cast-out c = search needs
 
 slice-write-out : tie.Need-slice-write-out
-slice-write-out c = let start = c .before .before .before .before in let room = rw (c .before .form .given .1) at (start .pre) in omega arith
+slice-write-out c = search needs
 
-enum-known-form-2 : tie.Need-enum-known-form-2
-enum-known-form-2 c = search needs
-
-put-long-requires : tie.Need-put-long-requires
-unfolding lowFirst
-put-long-requires c κs = let start = c .before .before .before .before .before in let room = rw (c .before .before .form2 .given .1) at (start .pre) in omega arith
-
-enum-told : tie.Need-enum-told
-enum-told c = search needs
+add-result : tie.Need-add-result
+add-result c = search needs
 
 same-length : tie.Need-same-length
 same-length c = search needs
 
 returns : tie.Need-returns
-returns c = rw (c .before .form .given .1)
+returns c =
+    let byte-units = c .before in
+    let test = byte-units .before in
+    let form-width = test .before in
+    let args = form-width .before .before .args in
+    putForm-one (now (args .out)) (args .at) (args .version) (args .duration .0) (form-width .form-width .ensures) (test .if1 .taken) (byte-units .byte-units .ensures .0)
+
+put-long-requires : tie.Need-put-long-requires
+put-long-requires c κs = search needs
+
+add-result-2 : tie.Need-add-result-2
+add-result-2 c = search needs
 
 same-length-2 : tie.Need-same-length-2
 same-length-2 c = search needs
@@ -34,22 +46,32 @@ same-length-2 c = search needs
 returns-2 : tie.Need-returns-2
 returns-2 c =
     let put-long = c .before .before in
-    put-long .put-long .ensures ∙ rw (put-long .before .before .before .form2 .given .1)
+    let test = put-long .before .before in
+    let form-width = test .before .before in
+    let args = form-width .before .before .args in
+    putForm-four (now (args .out)) (args .at) (args .version) (args .duration .0) (form-width .form-width .ensures) (test .if2 .taken) (put-long .put-long .ensures)
 
 returns-3 : tie.Need-returns-3
-returns-3 c = search needs
+returns-3 c =
+    let test = c .before in
+    let form-width = test .before in
+    let args = form-width .before .before .args in
+    putForm-none (now (args .out)) (args .at) (args .version) (args .duration .0) (form-width .form-width .ensures) (test .if1 .left) (c .if2 .left)
 
 pub put-form-spec : {M : Type 1} → statement M
 put-form-spec =
     tie.close
     (tie.spec
-    enum-known-form
+    form-width-requires
+    cast-width
+    byte-units-requires
+    cast-out
     slice-write-out
-    enum-known-form-2
-    put-long-requires
-    enum-told
+    add-result
     same-length
     returns
+    put-long-requires
+    add-result-2
     same-length-2
     returns-2
     returns-3)

@@ -44,7 +44,7 @@ returns : tie.Need-returns
 returns c =
     let low-byte2 = c .before in
     let args = low-byte2 .before .before .before .args in
-    sets-longForm (now (args .out)) (args .at) (args .count .0) (low-byte2 .before .low-byte .ensures) (low-byte2 .low-byte2 .ensures) (c .low-byte3 .ensures)
+    sets-longForm (now (args .out)) (args .at) (args .duration .0) (low-byte2 .before .low-byte .ensures) (low-byte2 .low-byte2 .ensures) (c .low-byte3 .ensures)
 
 pub put-long-spec : {M : Type 1} → statement M
 put-long-spec =

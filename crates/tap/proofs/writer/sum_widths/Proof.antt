@@ -1,7 +1,6 @@
 -- `tap::writer::sum_widths` meets its contract. The invariant: with the forms of the durations before, those of the rest give all data bytes, and whether one is missing.
 use Prim.Native.Nat.{_-_}
 use native.Mathlib.Omega.{arith}
-use mathlib.Core.Path.{ap, _∙_}
 use borrow.Author.Needs.{needs}
 use denote.Ref.{now}
 use lib.ListN.{length, getD}
@@ -25,25 +24,14 @@ mul-t8 c = search needs
 shared-slice-read-t11 : tie.Need-shared-slice-read-t11 Inv-loop μ-loop
 shared-slice-read-t11 c = search needs
 
-form-of-requires : tie.Need-form-of-requires Inv-loop μ-loop
-form-of-requires c κs = search needs
-
-form-length-requires : tie.Need-form-length-requires Inv-loop μ-loop
-form-length-requires c κs = search needs
-
-cast-width : tie.Need-cast-width Inv-loop μ-loop
-cast-width c =
-    let form-of = c .before in
-    let loop = form-of .before .before .before in
-    let args = loop .before .before .args in
-    omega (arith, c .form-length .ensures ∙ ap length (form-of .form-of .ensures), width-formOf (args .version) (getD (now (args .durations)) (loop .loop .i) 0))
+form-width-requires : tie.Need-form-width-requires Inv-loop μ-loop
+form-width-requires c κs = search needs
 
 add-bytes : tie.Need-add-bytes Inv-loop μ-loop
 add-bytes c =
-    let form-of = c .before in
-    let loop = form-of .before .before .before in
+    let loop = c .before .before .before in
     let args = loop .before .before .args in
-    omega (arith, c .form-length .ensures ∙ ap length (form-of .form-of .ensures), width-formOf (args .version) (getD (now (args .durations)) (loop .loop .i) 0), loop .loop .inv .few)
+    omega (arith, c .form-width .ensures, width-formOf (getD (now (args .durations)) (loop .loop .i) 0) (args .version), loop .loop .inv .few)
 
 add-i : tie.Need-add-i Inv-loop μ-loop
 add-i c = search needs
@@ -53,10 +41,10 @@ loop-less c = search needs
 
 loop-again : tie.Need-loop-again Inv-loop μ-loop
 loop-again c =
-    let form-of = c .before in
-    let loop = form-of .before .before .before in
+    let test = c .before .before in
+    let loop = test .before in
     let args = loop .before .before .args in
-    measure-next (args .version) (now (args .durations)) (loop .loop .inv) (form-of .before .before .loop-test .taken) (c .form-length .ensures ∙ ap length (form-of .form-of .ensures))
+    measure-next (args .version) (now (args .durations)) (loop .loop .inv) (test .loop-test .taken) (c .form-width .ensures)
 
 returns : tie.Need-returns Inv-loop μ-loop
 returns c =
@@ -73,9 +61,7 @@ sum-widths-spec =
     loop-holds
     mul-t8
     shared-slice-read-t11
-    form-of-requires
-    form-length-requires
-    cast-width
+    form-width-requires
     add-bytes
     add-i
     loop-less
