@@ -16,7 +16,7 @@ static uint32_t pulses[PULSES], block[PULSES];
 static size_t count, block_count, tap_len;
 
 /* Layout and numbers, as the library has them. */
-_Static_assert(TAPE_VERSION == 1, "another version has another layout");
+_Static_assert(TAPE_VERSION == 2, "this test is of version 2");
 #define AT(type, field, offset) _Static_assert(offsetof(type, field) == (offset), #type "." #field)
 #define SIZE(type, size) _Static_assert(sizeof(type) == (size), #type)
 SIZE(tape_refusal, 16); AT(tape_refusal, number, 0); AT(tape_refusal, block, 4); AT(tape_refusal, place, 8);
@@ -30,7 +30,7 @@ SIZE(tape_span, 32); AT(tape_span, refusal, 0); AT(tape_span, offset, 16); AT(ta
 static void refusals(void)
 {
     uint8_t file[24] = "C64-TAPE-RAW\1\0\0\0\1\0\0\0\0";
-    uint32_t odd = 7;
+    uint32_t odd = 7, over = 16777216;
     EXPECT(tape_write_block(bytes, N + 1, LEADER0, block, PULSES).refusal.number == TAPE_WRONG_SIZE);
     EXPECT(tape_write_block(bytes, N, LEADER0, block, TAPE_BLOCK_PULSES(N, LEADER0) - 1).refusal.number == TAPE_NO_ROOM);
     EXPECT(tape_write_block(bytes, N, TAPE_LEAST_LEADER - 1, block, PULSES).refusal.number == TAPE_WRONG_LEADER);
@@ -44,7 +44,8 @@ static void refusals(void)
     EXPECT(tape_shown_name(header, sizeof header - 1).refusal.number == TAPE_WRONG_SIZE);
     EXPECT(tape_read_tap(file, 20, pulses, PULSES).refusal.number == TAPE_WRONG_TAP_HEADER);
     EXPECT(tape_read_tap(file, 21, pulses, PULSES).refusal.number == TAPE_CUT_LONG_FORM);
-    EXPECT(tape_write_tap(&odd, 1, 1, tap, sizeof tap).refusal.number == TAPE_NO_TAP_FORM);
+    EXPECT(tape_write_tap(&odd, 1, 0, tap, sizeof tap).refusal.number == TAPE_NO_TAP_FORM);
+    EXPECT(tape_write_tap(&over, 1, 1, tap, sizeof tap).refusal.number == TAPE_NO_TAP_FORM);
     EXPECT(tape_write_tap(&odd, 1, 2, tap, sizeof tap).refusal.number == TAPE_WRONG_TAP_VERSION);
     EXPECT(tape_write_tap(&odd, TAPE_MOST_DURATIONS + 1, 1, tap, 0).refusal.number == TAPE_WRONG_SIZE);
 }
@@ -128,6 +129,16 @@ static void read_tap(void)
     EXPECT(t.refusal.number == TAPE_ACCEPTED && t.version == 1 && t.count == count);
 }
 
+/* The long form counts cycles. */
+static void long_form(void)
+{
+    static const uint8_t file[24] = "C64-TAPE-RAW\1\0\0\0\4\0\0\0\0\x54\3\0";
+    uint32_t duration = 852, read = 0;
+    EXPECT(tape_write_tap(&duration, 1, 1, tap, sizeof tap).count == sizeof file);
+    EXPECT(memcmp(tap, file, sizeof file) == 0);
+    EXPECT(tape_read_tap(file, sizeof file, &read, 1).count == 1 && read == duration);
+}
+
 /* Turns a bit round: its two pulses change places. */
 static void turn(uint32_t *bit)
 {
@@ -199,6 +210,7 @@ int main(void)
     on_painted_stack("tape_shown_name", shown_name, TAPE_STACK_SHOWN_NAME);
     on_painted_stack("tape_write_tap", write_tap, TAPE_STACK_WRITE_TAP);
     on_painted_stack("tape_read_tap", read_tap, TAPE_STACK_READ_TAP);
+    long_form();
     spoilt();
     puts("the C interface is as its header says");
     return 0;

@@ -71,6 +71,9 @@ pub struct Run {
     index: u64,
     scene: &'static str,
     seen: BTreeMap<Outcome, u64>,
+    /// Durations that came back from a TAP file of version 1, by their remainder
+    /// modulo 8: first those below 2,048 cycles, then the others.
+    remainders: [[u64; 8]; 2],
 }
 
 /// A kind of input: its name, and what makes one and calls with it.
@@ -87,6 +90,7 @@ impl Run {
             index: 0,
             scene: "",
             seen: BTreeMap::new(),
+            remainders: [[0; 8]; 2],
         }
     }
 
@@ -110,9 +114,43 @@ impl Run {
         Random::new(self.seed ^ area.rotate_left(32), self.index)
     }
 
+    /// Counts durations that were written as version 1 and read back.
+    pub fn count_remainders(&mut self, durations: &[u32]) {
+        for &duration in durations {
+            let is_large = duration >= 2048;
+            self.remainders[usize::from(is_large)][duration as usize % 8] += 1;
+        }
+    }
+
+    /// Prints those counts, and demands that small and large durations of each
+    /// remainder modulo 8 came back a fair number of times.
+    pub fn demand_every_remainder(&self) {
+        for (size, counts) in ["small", "large"].into_iter().zip(self.remainders) {
+            println!(
+                "{}: {size} durations back, by their remainder modulo 8: {counts:?}",
+                self.area
+            );
+            for (remainder, times) in counts.into_iter().enumerate() {
+                assert!(
+                    times >= self.fair(),
+                    "{size} durations of remainder {remainder} came back too seldom"
+                );
+            }
+        }
+    }
+
+    /// The least number of times that each outcome has to come up; 0 in a
+    /// random run of few calls.
+    fn fair(&self) -> u64 {
+        match self.made {
+            0..10_000 if self.index > 0 => 0,
+            made => (made / 2000).max(1),
+        }
+    }
+
     /// Prints what was seen, and demands that each outcome of a call listed
     /// here, as refusal number and block, came up a fair number of times, and
-    /// no other one ever. A random run of few calls need not see each.
+    /// no other one ever.
     pub fn finish(self, outcomes: &[(&'static str, &[(u32, u32)])]) {
         println!("{}: {} calls, seed {}", self.area, self.made, self.seed);
         for ((call, number, block), times) in &self.seen {
@@ -121,10 +159,7 @@ impl Run {
                 _ => println!("  {call}: refused {number} block {block} {times}"),
             }
         }
-        let fair = match self.made {
-            0..10_000 if self.index > 0 => 0,
-            made => (made / 2000).max(1),
-        };
+        let fair = self.fair();
         for &(call, listed) in outcomes {
             for &(number, block) in listed {
                 let times = self.seen.get(&(call, number, block)).copied();

@@ -1,19 +1,22 @@
-//! TAP files (document 01, "TAP files").
+//! TAP files (document 01, "TAP files"; the long form by document 02, Q-4).
 
 use differential::compare::{Run, Scene};
 use differential::random::Random;
+use differential::reference::header::HEADER;
 use differential::reference::tap::{MAX_DURATIONS, TAP_HEADER};
 use differential::reference::write_tap;
-use differential::strip::Program;
+use differential::strip::{drift, Program};
 
 const WRITER: (&str, &[(u32, u32)]) = ("write_tap", &[(0, 0), (2, 0), (11, 0), (13, 0)]);
 const READER: (&str, &[(u32, u32)]) = ("read_tap", &[(0, 0), (2, 0), (10, 0), (11, 0), (12, 0)]);
+const FILE_READER: (&str, &[(u32, u32)]) = ("read_file", &[(0, 0)]);
 
-const SCENES: [Scene; 10] = [
+const SCENES: [Scene; 11] = [
     ("written", written),
     ("written", written),
     ("written and read", written_and_read),
     ("a program", a_program),
+    ("a drifted program", a_drifted_program),
     ("any data", any_data),
     ("zero bytes", zero_bytes),
     ("header changed", header_changed),
@@ -22,30 +25,52 @@ const SCENES: [Scene; 10] = [
     ("all at once", all_at_once),
 ];
 
-/// Durations at the edges of the forms.
-const EDGES: [u32; 24] = [
+/// The longest duration with a form in version 1, in cycles.
+const LONGEST: u32 = 0xff_ffff;
+
+/// Durations at the edges of the forms, and between the units of a byte.
+const EDGES: [u32; 42] = [
     0,
     1,
+    2,
+    3,
     4,
+    5,
+    6,
     7,
     8,
     9,
+    15,
     16,
+    17,
+    359,
+    360,
+    852,
     2032,
+    2033,
     2039,
     2040,
     2041,
+    2042,
+    2043,
+    2044,
+    2045,
+    2046,
     2047,
     2048,
     2049,
     2056,
-    524_280,
-    524_288,
-    134_217_712,
-    134_217_719,
-    134_217_720,
-    134_217_721,
-    134_217_728,
+    65_535,
+    65_536,
+    LONGEST - 7,
+    LONGEST - 1,
+    LONGEST,
+    LONGEST + 1,
+    LONGEST + 2,
+    LONGEST + 9,
+    // Its low three bytes are those of 360.
+    LONGEST + 361,
+    1 << 31,
     4_294_967_288,
     u32::MAX,
 ];
@@ -54,7 +79,8 @@ const EDGES: [u32; 24] = [
 fn taps() {
     let mut run = Run::new("taps");
     run.play(&SCENES);
-    run.finish(&[WRITER, READER]);
+    run.demand_every_remainder();
+    run.finish(&[WRITER, READER, FILE_READER]);
 }
 
 /// The most durations and one more; each list is a few megabytes.
@@ -69,7 +95,7 @@ fn the_most_durations() {
             let _ = run.write_tap(&mut random, &durations, version, room);
         }
     }
-    durations.fill(134_217_720);
+    durations.fill(LONGEST);
     let long = TAP_HEADER + 4 * MAX_DURATIONS;
     let _ = run.write_tap(&mut random, &durations, 1, long - 1);
     let (_, file) = run
@@ -78,7 +104,7 @@ fn the_most_durations() {
     for room in [MAX_DURATIONS - 1, MAX_DURATIONS] {
         let _ = run.read_tap(&mut random, &file, room);
     }
-    durations[MAX_DURATIONS - 1] = 1;
+    durations[MAX_DURATIONS - 1] = LONGEST + 1;
     let _ = run.write_tap(&mut random, &durations, 1, long);
     durations.push(8);
     for (version, room) in [(1, long + 4), (2, 0)] {
@@ -109,6 +135,39 @@ fn every_edge_of_the_forms() {
         }
     }
     run.finish(&[WRITER]);
+}
+
+/// Every duration that has a form in version 1, each list a few megabytes.
+#[test]
+fn every_duration_of_version_1() {
+    let mut run = Run::new("durations of version 1");
+    let mut random = run.random();
+    for first in (0..=LONGEST).step_by(MAX_DURATIONS) {
+        let durations: Vec<u32> = (first..).take(MAX_DURATIONS).collect();
+        write_and_read(&mut run, &mut random, &durations, 1);
+    }
+    run.finish(&[("write_tap", &[(0, 0)]), ("read_tap", &[(0, 0)])]);
+}
+
+/// Counts in the long form, those that one byte holds among them.
+#[test]
+fn every_small_count_in_the_long_form() {
+    let mut run = Run::new("small counts in the long form");
+    let mut random = run.random();
+    let counts: Vec<u32> = (0..=0xffff).collect();
+    let data: Vec<u8> = counts.iter().flat_map(|&count| long_form(count)).collect();
+    let (read, out) = run
+        .read_tap(&mut random, &file_of(&data, 1), counts.len())
+        .expect("long forms are read");
+    assert_eq!(read.count, counts.len());
+    assert_eq!(out, counts);
+    run.finish(&[("read_tap", &[(0, 0)])]);
+}
+
+/// A zero byte, then the cycles in three bytes, low first.
+fn long_form(cycles: u32) -> [u8; 4] {
+    let [low, middle, high, _] = cycles.to_le_bytes();
+    [0, low, middle, high]
 }
 
 /// Every byte of a header in every value, and every cut of a file.
@@ -171,20 +230,40 @@ fn some_count(random: &mut Random) -> usize {
     }
 }
 
-/// Durations that all have a form in this version.
+/// Durations that all have a form in this version, few or many of them between
+/// the units of a byte or longer than it holds.
 fn sound_durations(random: &mut Random, version: u8) -> Vec<u32> {
     let count = some_count(random);
+    let once_in = random.pick(&[1, 2, 8, 60]);
     (0..count)
-        .map(|_| sound_duration(random, version))
+        .map(|_| sound_duration(random, version, once_in))
         .collect()
 }
 
-fn sound_duration(random: &mut Random, version: u8) -> u32 {
-    let units = match (version, random.below(6)) {
-        (0, 0) => 256,
-        (1, 0) => random.pick(&[0, 256, 257, 65_535, 65_536, 0xff_ffff]),
-        (1, 1) => random.within(256..=0xff_ffff),
-        (_, 2) => random.pick(&[1, 254, 255]),
+fn sound_duration(random: &mut Random, version: u8, once_in: usize) -> u32 {
+    match version {
+        1 if random.once_in(once_in) => some_cycles(random),
+        0 if random.once_in(6) => 2048,
+        _ => some_units(random),
+    }
+}
+
+/// A duration that has a form in version 1.
+fn some_cycles(random: &mut Random) -> u32 {
+    let cycles = match random.below(5) {
+        0 => random.pick(&[0, 1, 7, 2041, 2047, 2048, 65_535, 65_536, LONGEST as usize]),
+        1 => random.within(0..=2056),
+        2 => random.within(200..=959),
+        3 => random.within(0..=LONGEST as usize) >> random.below(24),
+        _ => random.within(2048..=LONGEST as usize),
+    };
+    cycles as u32
+}
+
+/// A duration that one byte holds, which is not zero.
+fn some_units(random: &mut Random) -> u32 {
+    let units = match random.below(5) {
+        0 => random.pick(&[1, 254, 255]),
         _ => random.within(1..=255),
     };
     8 * units as u32
@@ -192,7 +271,7 @@ fn sound_duration(random: &mut Random, version: u8) -> u32 {
 
 fn some_duration(random: &mut Random) -> u32 {
     match random.below(4) {
-        0 => random.bits() as u32,
+        0 => random.bits() as u32 >> random.below(32),
         1 => random.bits() as u32 & !7,
         _ => random.pick(&EDGES),
     }
@@ -215,7 +294,7 @@ fn written(run: &mut Run, random: &mut Random) {
 /// The bytes of these durations, as far as they have a form.
 fn written_len(durations: &[u32], version: u8) -> usize {
     let data = durations.iter().map(|duration| match duration {
-        1..=2040 => 1,
+        8..=2040 if duration % 8 == 0 => 1,
         _ if version == 0 => 1,
         _ => 4,
     });
@@ -225,18 +304,29 @@ fn written_len(durations: &[u32], version: u8) -> usize {
 fn written_and_read(run: &mut Run, random: &mut Random) {
     let version = random.below(2) as u8;
     let durations = sound_durations(random, version);
-    let need = written_len(&durations, version);
+    write_and_read(run, random, &durations, version);
+}
+
+/// Writes durations that all have a form, and answers what is read of them,
+/// which is the same.
+fn write_and_read(run: &mut Run, random: &mut Random, durations: &[u32], version: u8) -> Vec<u32> {
+    let need = written_len(durations, version);
     let room = random.enough_room(need);
     let (length, file) = run
-        .write_tap(random, &durations, version, room)
+        .write_tap(random, durations, version, room)
         .expect("durations with a form are written");
     assert_eq!(length, need);
     let room = random.enough_room(durations.len());
-    let (read, out) = run
+    let (read, mut out) = run
         .read_tap(random, &file[..length], room)
         .expect("a written file is read");
     assert_eq!((read.version, read.count), (version, durations.len()));
-    assert_eq!(out[..read.count], durations);
+    out.truncate(read.count);
+    assert_eq!(out, durations);
+    if version == 1 {
+        run.count_remainders(durations);
+    }
+    out
 }
 
 /// The pulses of a program file.
@@ -254,6 +344,26 @@ fn a_program(run: &mut Run, random: &mut Random) {
         .expect("written pulses have a form");
     let room = random.room(pulses.len());
     let _ = run.read_tap(random, &file[..length], room);
+}
+
+/// A program file as a tape gives it, each pulse moved by single cycles: the
+/// file that is read from the TAP file is the one that was written.
+fn a_drifted_program(run: &mut Run, random: &mut Random) {
+    if !random.once_in(20) {
+        return any_data(run, random);
+    }
+    let program = Program::random(random);
+    let mut pulses = Vec::new();
+    program.push(&mut pulses);
+    drift(random, &mut pulses);
+    let durations = write_and_read(run, random, &pulses, 1);
+    let rooms = [HEADER, program.bytes.len()];
+    let (read, [header, bytes]) = run
+        .read_file(random, &durations, 0, rooms)
+        .expect("a drifted file is read");
+    assert_eq!(read.header, program.header);
+    assert_eq!(header, program.header_bytes());
+    assert_eq!(bytes, program.bytes);
 }
 
 fn any_data(run: &mut Run, random: &mut Random) {

@@ -1,4 +1,4 @@
-//! TAP files (document 01, "TAP files").
+//! TAP files (document 01, "TAP files"; the long form by document 02, Q-4).
 
 use super::{refusal, Refusal};
 
@@ -11,10 +11,15 @@ pub const TAP_HEADER: usize = 20;
 const LETTERS: [u8; 12] = *b"C64-TAPE-RAW";
 
 /// A duration in CPU cycles.
-#[derive(Clone, Copy, Debug, PartialEq, Eq)]
+#[derive(Clone, Copy, Debug, PartialEq, Eq, PartialOrd)]
 struct Cycles(u32);
 
-/// A duration in TAP units of eight cycles.
+impl Cycles {
+    /// The most that the long form holds.
+    const MAX_LONG: Self = Self(0x00ff_ffff);
+}
+
+/// A duration in TAP units of eight cycles: what a single byte counts.
 #[derive(Clone, Copy, Debug, PartialEq, Eq)]
 struct Units(u32);
 
@@ -22,14 +27,14 @@ impl Units {
     /// What a zero byte stands for in version 0.
     const OVERFLOW: Self = Self(256);
 
-    /// The most that three bytes hold.
-    const MAX_LONG: Self = Self(0x00ff_ffff);
-
+    /// These cycles in units, if they are a multiple of eight.
     fn from_cycles(Cycles(cycles): Cycles) -> Option<Self> {
-        (cycles % 8 == 0).then_some(Self(cycles / 8))
+        // A remainder would stand in the top three bits.
+        let units = cycles.rotate_right(3);
+        (units <= u32::MAX / 8).then_some(Self(units))
     }
 
-    /// No form holds more than three bytes of units, so this does not overflow.
+    /// No single byte stands for more than 256 units, so this does not overflow.
     fn to_cycles(self) -> Cycles {
         Cycles(8 * self.0)
     }
@@ -58,30 +63,26 @@ enum Form {
     Short(u8),
     /// A lone zero byte.
     Overflow,
-    /// A zero byte, then three bytes, low first.
-    Long([u8; 3]),
+    /// A zero byte, then the cycles in three bytes, low first.
+    Long(Cycles),
 }
 
 impl Form {
     /// The form in which a duration is written, if it has one.
     fn of(cycles: Cycles, version: Version) -> Option<Self> {
-        let units = Units::from_cycles(cycles)?;
-        match (units, version) {
-            (Units(short @ 1..=255), _) => Some(Self::Short(short as u8)),
-            (Units::OVERFLOW, Version::Zero) => Some(Self::Overflow),
-            (Units(long), Version::One) if long <= Units::MAX_LONG.0 => {
-                let [low, middle, high, _] = long.to_le_bytes();
-                Some(Self::Long([low, middle, high]))
-            }
+        match (Units::from_cycles(cycles), version) {
+            (Some(Units(short @ 1..=255)), _) => Some(Self::Short(short as u8)),
+            (Some(Units::OVERFLOW), Version::Zero) => Some(Self::Overflow),
+            (_, Version::One) if cycles <= Cycles::MAX_LONG => Some(Self::Long(cycles)),
             _ => None,
         }
     }
 
-    fn units(self) -> Units {
+    fn cycles(self) -> Cycles {
         match self {
-            Self::Short(byte) => Units(u32::from(byte)),
-            Self::Overflow => Units::OVERFLOW,
-            Self::Long([low, middle, high]) => Units(u32::from_le_bytes([low, middle, high, 0])),
+            Self::Short(byte) => Units(u32::from(byte)).to_cycles(),
+            Self::Overflow => Units::OVERFLOW.to_cycles(),
+            Self::Long(cycles) => cycles,
         }
     }
 
@@ -109,8 +110,9 @@ impl Iterator for Forms<'_> {
             (1.., _) => (Form::Short(byte), rest),
             (0, Version::Zero) => (Form::Overflow, rest),
             (0, Version::One) => {
-                let (bytes, rest) = rest.split_first_chunk()?;
-                (Form::Long(*bytes), rest)
+                let (&[low, middle, high], rest) = rest.split_first_chunk()?;
+                let cycles = u32::from_le_bytes([low, middle, high, 0]);
+                (Form::Long(Cycles(cycles)), rest)
             }
         };
         self.data = rest;
@@ -161,18 +163,24 @@ fn put_durations(durations: &[u32], version: Version, data: &mut [u8]) {
     let forms = durations
         .iter()
         .filter_map(|&duration| Form::of(Cycles(duration), version));
-    let mut place = 0;
+    let mut rest = data;
     for form in forms {
-        match form {
-            Form::Short(byte) => data[place] = byte,
-            Form::Overflow => data[place] = 0,
-            Form::Long(bytes) => {
-                data[place] = 0;
-                data[place + 1..place + 4].copy_from_slice(&bytes);
+        rest = match form {
+            Form::Short(byte) => put(rest, [byte]),
+            Form::Overflow => put(rest, [0]),
+            Form::Long(Cycles(cycles)) => {
+                let [low, middle, high, _] = cycles.to_le_bytes();
+                put(rest, [0, low, middle, high])
             }
-        }
-        place += form.len();
+        };
     }
+}
+
+/// Puts bytes at the head of `data` and answers what follows them.
+fn put<const N: usize>(data: &mut [u8], bytes: [u8; N]) -> &mut [u8] {
+    let (head, rest) = data.split_at_mut(N);
+    head.copy_from_slice(&bytes);
+    rest
 }
 
 /// Reads the durations of a TAP file, in cycles, into the start of `out`.
@@ -191,7 +199,7 @@ pub fn read_tap(file: &[u8], out: &mut [u32]) -> Result<TapRead, Refusal> {
     let count = count_durations(data, version)?;
     let out = out.get_mut(..count).ok_or(Refusal::new(refusal::ROOM))?;
     for (duration, form) in out.iter_mut().zip(Forms { data, version }) {
-        *duration = form.units().to_cycles().0;
+        *duration = form.cycles().0;
     }
     Ok(TapRead {
         version: tag,
@@ -249,39 +257,69 @@ mod tests {
         Err(Refusal::at(number, place))
     }
 
+    /// The data of the long form.
+    fn long(count: u32) -> [u8; 4] {
+        [0, count as u8, (count >> 8) as u8, (count >> 16) as u8]
+    }
+
     #[test]
     fn data_as_cycles() {
         assert_eq!(read(&tap(0, &[0x2d, 0x41, 0x56])), Ok(vec![360, 520, 688]));
         assert_eq!(read(&tap(1, &[0x2d, 0x41, 0x56])), Ok(vec![360, 520, 688]));
-        assert_eq!(read(&tap(1, &[0, 0x54, 0x03, 0])), Ok(vec![6816]));
+        assert_eq!(read(&tap(1, &[0, 0x54, 0x03, 0])), Ok(vec![852]));
         assert_eq!(
             read(&tap(0, &[0, 0x54, 0x03, 0])),
             Ok(vec![2048, 672, 24, 2048])
         );
-        assert_eq!(read(&tap(1, &[0, 1, 0, 0, 0, 0, 0, 0])), Ok(vec![8, 0]));
-        assert_eq!(read(&tap(1, &[0, 255, 255, 255])), Ok(vec![134_217_720]));
+        assert_eq!(read(&tap(1, &[0, 255, 255, 255])), Ok(vec![16_777_215]));
         assert_eq!(read(&tap(1, &[])), Ok(vec![]));
     }
 
     #[test]
-    fn forms_that_are_written() {
-        assert_eq!(write(&[8, 2040, 2048], 0), Ok(tap(0, &[1, 255, 0])));
-        assert_eq!(
-            write(&[0, 8, 2040, 2048, 134_217_720], 1),
-            Ok(tap(1, &[0, 0, 0, 0, 1, 255, 0, 0, 1, 0, 0, 255, 255, 255]))
-        );
-        for duration in [0, 1, 7, 9, 2047, 2049, 2056, u32::MAX] {
-            assert_eq!(write(&[8, duration, 1], 0), refused(13, 1));
+    fn small_counts_in_the_long_form_are_read() {
+        for count in 0..=2056 {
+            assert_eq!(read(&tap(1, &long(count))), Ok(vec![count]));
         }
-        for duration in [1, 7, 9, 2047, 2049, 134_217_728, u32::MAX] {
-            assert_eq!(write(&[8, duration, 1], 1), refused(13, 1));
+        assert_eq!(read(&tap(1, &[0, 1, 0, 0, 0, 8, 0, 0])), Ok(vec![1, 8]));
+    }
+
+    #[test]
+    fn forms_of_version_0() {
+        let has_form = |duration: u32| (8..=2048).contains(&duration) && duration.is_multiple_of(8);
+        assert_eq!(write(&[8, 2040, 2048], 0), Ok(tap(0, &[1, 255, 0])));
+        for duration in (0..=4096).chain([16_777_208, 16_777_215, 16_777_216, u32::MAX - 7]) {
+            let expected = if has_form(duration) {
+                // 256 units are the zero byte.
+                Ok(tap(0, &[1, (duration / 8) as u8]))
+            } else {
+                refused(13, 1)
+            };
+            assert_eq!(write(&[8, duration], 0), expected, "{duration}");
+        }
+        assert_eq!(write(&[8, 852, 1], 0), refused(13, 1));
+    }
+
+    #[test]
+    fn forms_of_version_1() {
+        assert_eq!(write(&[852], 1), Ok(tap(1, &[0, 0x54, 0x03, 0])));
+        for units in 1..=255 {
+            assert_eq!(write(&[8 * u32::from(units)], 1), Ok(tap(1, &[units])));
+        }
+        let edges = [0, 9, 2048, 2049, 2056, 16_777_208, 16_777_214, 16_777_215];
+        for duration in (1..=7).chain(2041..=2047).chain(edges) {
+            assert_eq!(write(&[duration], 1), Ok(tap(1, &long(duration))));
+        }
+        for duration in [16_777_216, 16_777_217, 16_777_224, u32::MAX - 7, u32::MAX] {
+            assert_eq!(write(&[1, duration, u32::MAX], 1), refused(13, 1));
         }
     }
 
     #[test]
     fn what_was_written_is_read() {
-        let durations = [360, 0, 2048, 6816, 8, 134_217_720, 2040];
+        let durations = [360, 0, 2048, 852, 8, 16_777_215, 2040, 2047, 1];
         assert_eq!(read(&write(&durations, 1).unwrap()), Ok(durations.to_vec()));
+        let durations: Vec<u32> = (0..=4096).collect();
+        assert_eq!(read(&write(&durations, 1).unwrap()), Ok(durations));
         let durations = [360, 2048, 8, 2040];
         assert_eq!(read(&write(&durations, 0).unwrap()), Ok(durations.to_vec()));
     }
@@ -314,14 +352,17 @@ mod tests {
 
     #[test]
     fn refusals_of_the_writer_in_their_order() {
-        let durations = vec![1; MAX_DURATIONS + 1];
+        let durations = vec![16_777_216; MAX_DURATIONS + 1];
         assert_eq!(write_tap(&durations, 2, &mut []), refused(1, 0));
         assert_eq!(write_tap(&durations[1..], 2, &mut []), refused(11, 0));
         assert_eq!(write_tap(&durations[1..], 1, &mut []), refused(13, 0));
+        assert_eq!(write_tap(&[8, 9], 0, &mut []), refused(13, 1));
         assert_eq!(write_tap(&[8, 2048], 0, &mut [0; 21]), refused(2, 0));
         assert_eq!(write_tap(&[8, 2048], 1, &mut [0; 24]), refused(2, 0));
         assert_eq!(write_tap(&[8, 2048], 1, &mut [0; 25]), Ok(25));
-        let most = vec![134_217_720; MAX_DURATIONS];
+        assert_eq!(write_tap(&[8, 9], 1, &mut [0; 24]), refused(2, 0));
+        assert_eq!(write_tap(&[8, 9], 1, &mut [0; 25]), Ok(25));
+        let most = vec![16_777_215; MAX_DURATIONS];
         let mut out = vec![0; 20 + 4 * MAX_DURATIONS];
         assert_eq!(write_tap(&most, 1, &mut out), Ok(out.len()));
     }

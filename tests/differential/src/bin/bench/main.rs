@@ -12,6 +12,7 @@ use std::hint::black_box;
 use differential::random::Random;
 use differential::readers::Tally;
 use differential::reference::byte::read_byte;
+use differential::reference::pulse::{LONG, MEDIUM, SHORT};
 use differential::reference::Header;
 use differential::strip::{drift, places_to_spoil, push_block, push_byte, Placed};
 use differential::thresholds::FIXED;
@@ -184,16 +185,32 @@ fn taps(sheet: &mut Sheet, random: &mut Random) {
         let pulses = written(&payload(random, n)).0;
         tap(sheet, &format!("{n}"), &pulses);
     }
-    let pulses: Vec<u32> = (0..MANY).map(|_| random.pick(&[360, 520, 688])).collect();
+    let pulses: Vec<u32> = (0..MANY).map(|_| any_pulse(random)).collect();
     tap(sheet, "pulses-1048576", &pulses);
     let pulses: Vec<u32> = (0..MANY).map(|_| any_duration(random)).collect();
     tap(sheet, "long-forms-1048576", &pulses);
+    let pulses: Vec<u32> = (0..MANY).map(|_| drifted_pulse(random)).collect();
+    tap(sheet, "drifted-1048576", &pulses);
+}
+
+/// A pulse as it is written.
+fn any_pulse(random: &mut Random) -> u32 {
+    random.pick(&[SHORT, MEDIUM, LONG])
 }
 
 /// A duration with a form in version 1, one in eight in the long form.
 fn any_duration(random: &mut Random) -> u32 {
-    let most = if random.once_in(8) { 0xff_ffff } else { 255 };
-    8 * random.within(1..=most) as u32
+    if random.once_in(8) {
+        random.within(1..=0xff_ffff) as u32
+    } else {
+        8 * random.within(1..=255) as u32
+    }
+}
+
+/// A pulse as a tape gives it: up to 40 cycles off, within its class. Seven in
+/// eight take the long form.
+fn drifted_pulse(random: &mut Random) -> u32 {
+    any_pulse(random) - 40 + random.below(80) as u32
 }
 
 fn tap(sheet: &mut Sheet, name: &str, pulses: &[u32]) {
