@@ -1,14 +1,20 @@
 -- The values by what was kept: which copy's bits they are.
 use Prim.Native.Nat.{ℕ, _+_, _-_, _*_, _≤_, _<_}
-use native.Mathlib.Decide.{decLt}
+use native.Mathlib.Decide.{ℕ-discrete, decLt}
 use native.Mathlib.Omega.{arith}
 use mathlib.Core.Path.{_≡_, refl, sym, ap, _∙_}
-use mathlib.Core.Bool.{Bool, true, false, cond, not, Bool·beq}
+use mathlib.Core.Bool.{Bool, true, false, cond, not, _||_, Bool·beq}
 use mathlib.Core.List.{List}
+use borrow.Author.Tests.{lt-ltb, le-ltb, ne-eqb}
+use lib.Dec.{eqb, ltb}
+use lib.ListN.{length, getD}
 use lib.Seq.{sets}
 use Rattle.lists.specs.Places.{tabulate}
 use Rattle.lists.proofs.PlaceLaws.{tabulate-same, length-tabulate}
 use Rattle.lists.proofs.LoopLaws.{tableLeft, table-begun, table-part, Putting, put-next}
+use Rattle.lists.proofs.BoolLaws.{or-false}
+use Rattle.lists.proofs.BufferLaws.{getD-after, getD-stored, sets-there, sets-over}
+use Rattle.lists.proofs.CountLaws.{count-none, count-all}
 use Rattle.pulse.specs.declared.Thresholds.{Thresholds}
 use Rattle.pulse.specs.declared.Class.{Class}
 use Rattle.pulse.specs.Pulse.{classes}
@@ -16,11 +22,14 @@ use Rattle.byte.specs.declared.ByteRead.{ByteRead}
 use Rattle.byte.specs.declared.ByteRead.the-variants.{Good, Bad}
 use Rattle.byte.specs.Byte.{byteAt}
 use Rattle.block.specs.Reading.{placeOf, noValue, placeValue, placeAt, isLost, valueAt, valuesAt}
-use Rattle.block.specs.private.Values.{bitsAt, bitsOf}
+use Rattle.block.specs.Looking.{isFromTwo}
+use Rattle.block.specs.private.Values.{bitsAt, bitsOf, HoldsBits}
 use Rattle.block.specs.private.Flags.{flagAt, groupOf}
-use Rattle.block.specs.private.Checks.{isFromTwo, isRepaired, repairs, Flagged, SameFlags, NoneLost}
+use Rattle.block.specs.private.Checks.{isRepaired, repairs, Flagged, SameFlags, NoneLost}
 use Rattle.block.proofs.ValueLaws.{good-bits}
-use Rattle.block.proofs.Checking.{count-none, count-all}
+
+or-zero : (k : ℕ) (b : Bool) → b ≡ false → (eqb k 0 || b) ≡ true → k ≡ 0
+or-zero k b e h = elim (ℕ-discrete k 0) [ yes z ↦ z | no z ↦ absurd (let f = rw (ne-eqb k 0 z, e) at h in let w : _≡_ {A = ℕ} 0 1 = cc in omega arith) ]
 
 -- ---- A value that is not lost
 
@@ -49,20 +58,29 @@ module _ (t : Thresholds) (strip : List ℕ) (one two : ℕ) where
         (λ j a b. bits-value j (values j (omega arith)) (e j a (omega arith)))
 
     -- where none is repaired, and where each is
-    pub values-one : {repaired : ℕ} → repaired ≡ repairs cs one two n → repaired ≡ 0 → tabulate (bitsOf t strip one) (n - 0) 0 ≡ valuesAt cs one two n
+    values-one : {repaired : ℕ} → repaired ≡ repairs cs one two n → repaired ≡ 0 → tabulate (bitsOf t strip one) (n - 0) 0 ≡ valuesAt cs one two n
     values-one c e =
         part-value 0 n (omega arith) (omega arith) (λ j a b. count-none (isRepaired cs one two) (n + 1) (sym c ∙ e) j (omega arith))
         ∙ table-begun (valueAt cs one two) n
 
-    pub values-two : {repaired : ℕ} → repaired ≡ repairs cs one two n → n < repaired → tabulate (bitsOf t strip two) (n - 0) 0 ≡ valuesAt cs one two n
+    values-two : {repaired : ℕ} → repaired ≡ repairs cs one two n → n < repaired → tabulate (bitsOf t strip two) (n - 0) 0 ≡ valuesAt cs one two n
     values-two c e =
         part-value 0 n (omega arith) (omega arith) (λ j a b. count-all (isRepaired cs one two) (n + 1) (omega arith) j (omega arith))
         ∙ table-begun (valueAt cs one two) n
 
-    -- where the flags of a run are down
-    pub run-one : (row : List ℕ) (i end : ℕ) → Flagged cs one two n row → i ≤ end → end ≤ n → SameFlags row i end → flagAt row (groupOf i) ≡ false
-        → tabulate (bitsOf t strip one) (end - i) i ≡ tabulate (valueAt cs one two) (end - i) i
-    run-one row i end flagged h l same d = part-value i end h l (λ j a b. flagged j (omega arith) (same j a b ∙ d))
+    pub values-whole : {repaired copy : ℕ} → repaired ≡ repairs cs one two n → (eqb repaired 0 || ltb n repaired) ≡ true → copy ≡ cond (ltb n repaired) two one
+        → tabulate (bitsOf t strip copy) (n - 0) 0 ≡ valuesAt cs one two n
+    values-whole {repaired} c h e = elim (decLt n repaired) [
+      | yes l ↦ rw (e, lt-ltb n repaired l) (values-two c l)
+      | no l ↦
+          let z = le-ltb n repaired (omega arith) in
+          rw (e, z) (values-one c (or-zero repaired (ltb n repaired) z h))
+    ]
+
+    -- where the flags of a run are down copy one's bits are the values
+    pub run-value : (row : List ℕ) (i end : ℕ) → Flagged cs one two n row → end ≤ n → SameFlags row i end → flagAt row (groupOf i) ≡ false
+        → (j : ℕ) → i ≤ j → j < end → bitsOf t strip one j ≡ valueAt cs one two j
+    run-value row i end flagged l same d j a b = bits-value j (values j (omega arith)) (flagged j (omega arith) (same j a b ∙ d))
 
   -- ---- Another look at copy one's byte
 
@@ -78,6 +96,38 @@ module _ (t : Thresholds) (strip : List ℕ) (one two : ℕ) where
       go (Good v) f k = good-bits t strip (two + 20 * (9 + i)) f
       go Bad f k = absurd (let z : _≡_ {A = ℕ} 0 1 = cc in omega arith)
 
+-- ---- A buffer that holds copy one's bits
+
+-- the copy whose bits are put lies on the strip
+pub whole-within : {copy : ℕ} (one two n repaired : ℕ) → copy ≡ cond (ltb n repaired) two one → one ≤ two → copy ≤ two
+whole-within one two n repaired e h = elim (decLt n repaired) [
+  | yes l ↦ omega (arith, rw (lt-ltb n repaired l) at e)
+  | no l ↦ omega (arith, rw (le-ltb n repaired (omega arith)) at e)
+]
+
+module _ (t : Thresholds) (strip : List ℕ) (one n : ℕ) where
+  -- they were put
+  pub bits-held : {copy : ℕ} (two repaired : ℕ) (out out′ : List ℕ) → n ≤ length out → (eqb repaired 0 || ltb n repaired) ≡ false → copy ≡ cond (ltb n repaired) two one
+      → out′ ≡ sets out 0 (tabulate (bitsOf t strip copy) (n - 0) 0) → HoldsBits t strip one n out′ 0
+  bits-held two repaired out out′ room h e s j a b =
+      let l = or-false (eqb repaired 0) (ltb n repaired) h .1 in
+      let z : n - 0 ≡ n = omega arith in
+      let same : out′ ≡ sets out 0 (tabulate (bitsOf t strip one) n 0) = s ∙ rw (e, l, z) in
+      rw same (getD-stored (bitsOf t strip one) n 0 out j (omega arith) a (omega arith))
+
+  -- places after a run that was put hold what they held
+  pub bits-after : {i end : ℕ} (out out′ : List ℕ) (f : ℕ → ℕ) → i ≤ end → out′ ≡ sets out i (tabulate f (end - i) i) → HoldsBits t strip one n out i → HoldsBits t strip one n out′ end
+  bits-after {i} {end} out out′ f h s held j a b =
+      rw s (getD-after (tabulate f (end - i) i) out i j (omega (arith, length-tabulate f (end - i) i)) ∙ held j (omega arith) b)
+
+-- values put over bits are there alone
+pub values-over : (t : Thresholds) (strip : List ℕ) (one two n copy : ℕ) (out : List ℕ) {bits out′ : List ℕ} → n ≤ length out
+    → bits ≡ sets out 0 (tabulate (bitsOf t strip copy) (n - 0) 0) → out′ ≡ sets bits 0 (valuesAt (classes t strip) one two n)
+    → out′ ≡ sets out 0 (valuesAt (classes t strip) one two n)
+values-over t strip one two n copy out room e s =
+    let z : n - 0 ≡ n = omega arith in
+    s ∙ rw (e, z) (sets-over (bitsOf t strip copy) (valueAt (classes t strip) one two) n 0 out (omega arith))
+
 -- ---- Values put part by part: with those below i put, the rest put after them gives the whole
 
 module _ (cs : List Class) (one two n : ℕ) (out₀ : List ℕ) where
@@ -89,6 +139,13 @@ module _ (cs : List Class) (one two n : ℕ) (out₀ : List ℕ) where
       let values = tabulate (valueAt cs one two) (end - i) i in
       put-next u values (tableLeft (valueAt cs one two) n end) (table-part (valueAt cs one two) n i end h l) e
       (omega (arith, length-tabulate (valueAt cs one two) (end - i) i))
+
+  -- a run whose values are there
+  pub values-there : {out : List ℕ} {i end : ℕ} → i ≤ end → end ≤ n → n ≤ length out₀ → ValuesPut out i
+      → ((j : ℕ) → i ≤ j → j < end → getD out j 0 ≡ valueAt cs one two j) → ValuesPut out end
+  values-there {out} {i} {end} h l room u there =
+      let long = u .long in
+      values-next h l u (sym (sets-there (valueAt cs one two) (end - i) i out (omega arith) (λ j a b. there j a (omega arith))))
 
 -- ---- Runs
 

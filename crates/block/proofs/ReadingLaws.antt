@@ -1,4 +1,4 @@
--- Laws of reading: rule 4 in words, enough room, and how long an accepted payload is.
+-- Laws of reading: rule 4 in words, enough room, and what is known of an accepted block.
 use Prim.Native.Nat.{ℕ, _+_, _≤_}
 use native.Mathlib.Omega.{arith}
 use mathlib.Core.Path.{_≡_, refl}
@@ -15,10 +15,11 @@ use Rattle.pulse.specs.declared.Class.{Class}
 use Rattle.byte.specs.declared.ByteRead.{ByteRead}
 use Rattle.byte.specs.declared.ByteRead.the-variants.{Good, Bad}
 use Rattle.byte.specs.Byte.{isBad, byteAt}
-use Rattle.start.specs.Copies.{bytePlace, copyTwo, locateCopies}
+use Rattle.start.specs.Copies.{bytePlace, copyTwo, endOf, locateCopies}
 use Rattle.start.specs.Start.{findStart}
+use Rattle.start.proofs.CopiesLaws.{locateCopies-accepted}
 use Rattle.block.specs.Block.{wrongSize}
-use Rattle.block.specs.Reading.{isMiscounted, FromOne, FromTwo, Lost, placeOf, isLost, valueAt, valuesAt, sumHolds, BlockRead, readCopies, readAt, readFrom, readBlock, placeAt}
+use Rattle.block.specs.Reading.{isMiscounted, FromOne, FromTwo, Lost, placeOf, isLost, valueAt, valuesAt, sumHolds, BlockRead, blockAt, readCopies, readAt, readFrom, readBlock, placeAt}
 
 -- ---- Rule 4
 
@@ -58,23 +59,21 @@ pub readBlock-room : (cs : List Class) (room from n : ℕ) → wrongSize n ≡ f
 unfolding readBlock
 readBlock-room cs room from n size enough = rw (size, ifRoom-room room n _ enough)
 
--- ---- An accepted payload has n bytes
+-- ---- An accepted block lies on the strip, and its payload has n bytes
 
 module _ (cs : List Class) (n : ℕ) (b : BlockRead) where
-  length-values : (p : ℕ) → length (valuesAt cs p (copyTwo p n) n) ≡ n
-  length-values p = length-tabulate (valueAt cs p (copyTwo p n)) n 0
-
-  readAt-length : (p : ℕ) → readAt cs p n ≡ accepted b → length (b .payload) ≡ n
+  pub readAt-accepted : (p : ℕ) → readAt cs p n ≡ accepted b → (endOf p n ≤ length cs) × (blockAt p n (valuesAt cs p (copyTwo p n) n) ≡ b)
   unfolding readAt readCopies
-  readAt-length p e =
+  readAt-accepted p e =
       let q = copyTwo p n in
       let within = andThen-accepted (locateCopies (length cs) p n) (λ copies. readCopies cs p n) b e in
       let counted = refuseFirst-accepted WrongCountdown (firstFrom (isMiscounted cs p q) 9 0) _ b (within .2) .1 in
       let found = refuseFirst-accepted LostByte (firstFrom (isLost cs p q) (n + 1) 0) _ b counted .1 in
       let whole = cond-first (sumHolds cs p q n) _ _ (accepted b) (λ w. let z : _≡_ {A = ℕ} 0 1 = cc in omega arith) found .1 in
-      let same : valuesAt cs p q n ≡ b .payload = cc in
-      rw (← same) (length-values p)
+      (locateCopies-accepted (length cs) p n (within .0) (within .1) .0, cc)
 
   pub readFrom-length : (from : ℕ) → readFrom cs from n ≡ accepted b → length (b .payload) ≡ n
   unfolding readFrom
-  readFrom-length from e = let s = andThen-accepted (findStart cs from) (λ p. readAt cs p n) b e in readAt-length (s .0) (s .2)
+  readFrom-length from e =
+      let s = andThen-accepted (findStart cs from) (λ p. readAt cs p n) b e in
+      rw (← (readAt-accepted (s .0) (s .2) .1)) (length-tabulate (valueAt cs (s .0) (copyTwo (s .0) n)) n 0)

@@ -1,4 +1,5 @@
 pub mod Block
 pub mod Reading
+pub mod Looking
 pub mod Damage
 pub mod private

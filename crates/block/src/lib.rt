@@ -5,6 +5,7 @@
 //
 // The checksum is $00 XORed with each payload byte. A copy has n + 10 byte places of twenty pulses each.
 mod flags;
+mod looking;
 mod rules;
 mod values;
 mod write;
@@ -13,13 +14,17 @@ use pulse::Thresholds;
 use refusal::Put;
 use refusal::Reason;
 use refusal::Refusal;
+use start::CopiesAnswer;
 use start::Found;
 ghost use mathlib.Core.Path.{_≡_};
 ghost use lib.ListN.{length};
 ghost use Rattle.refusal.specs.Promise.{putAnswer, Written};
 ghost use Rattle.pulse.specs.Pulse.{fixed, classes};
 ghost use Rattle.block.specs.Block.{wrongSize, wrongLeader, measureBlock, writeBlock};
+ghost use Rattle.start.specs.Start.{findStart, foundAnswer};
+ghost use Rattle.start.specs.Copies.{copiesAnswer};
 ghost use Rattle.block.specs.Reading.{readBlock, BlockPromise};
+ghost use Rattle.block.specs.Looking.{copiesAt, lookAt, lookAnswer, readPlace, placeAnswer};
 
 // The largest payload.
 pub const MOST_BYTES: usize = 8192;
@@ -44,6 +49,32 @@ pub struct Extent {
 // What the block reader answers.
 pub enum BlockAnswer {
     Accepted(Extent),
+    Refused(Refusal),
+}
+
+// How many of the places 0 to n of a block, the checksum's among them, are taken from copy one, are taken from copy two, and are lost.
+pub struct Tally {
+    pub one: usize,
+    pub two: usize,
+    pub lost: usize,
+}
+
+// What looking at a block tells: what the block reader would answer, and where the values come from.
+pub struct Look {
+    pub answer: BlockAnswer,
+    pub tally: Tally,
+}
+
+// What rule 4 says of a place: its value is copy one's, or it is copy two's, or it is lost.
+pub enum PlaceRead {
+    One(u8),
+    Two(u8),
+    Neither,
+}
+
+// What reading one place answers.
+pub enum PlaceAnswer {
+    Accepted(PlaceRead),
     Refused(Refusal),
 }
 
@@ -89,14 +120,65 @@ pub fn read_block(strip: &[u32], from: usize, n: usize, out: &mut [u8]) -> Block
     if out.len() < n {
         return rules::refused(Reason::NoRoom, 0);
     }
-    let t = Thresholds::fixed();
-    let Found::At(start) = start::find_start(t, strip, from) else {
+    let Found::At(start) = start_from(strip, from) else {
         return rules::refused(Reason::NoStart, 0);
     };
-    rules::read_at(t, strip, start, n, out)
+    rules::read_at(Thresholds::fixed(), strip, start, n, out)
 }
 
-fn wrong_size(n: usize) -> bool
+// The first start at or after `from`.
+pub fn start_from(strip: &[u32], from: usize) -> Found
+    ensures { λ r. ⌜ foundAnswer r ≡ findStart (classes fixed (now (strip .entry))) from ⌝ }
+{
+    start::find_start(Thresholds::fixed(), strip, from)
+}
+
+// Looks at the block of n payload bytes with this start: rules 2 to 5, with every place counted. It refuses a wrong n, and a block that is cut
+// short or damaged beyond repair. Nothing is counted of a wrong n, or where the block is cut short.
+pub fn look_at(strip: &[u32], start: usize, n: usize) -> Look
+    ensures { λ l. ⌜ lookAnswer l ≡ lookAt (classes fixed (now (strip .entry))) start n ⌝ }
+{
+    match copies_at(strip.len(), start, n) {
+        CopiesAnswer::Refused(r) => looking::refused(r),
+        CopiesAnswer::Accepted(copies) => looking::look_copies(
+            Thresholds::fixed(),
+            strip,
+            copies,
+            n,
+        ),
+    }
+}
+
+// Place i of such a block, by rule 4: a payload byte, or the checksum where i is n. It refuses a wrong n, an i above n, and a strip that ends
+// before copy two does.
+pub fn place_at(strip: &[u32], start: usize, n: usize, i: usize) -> PlaceAnswer
+    ensures { λ r. ⌜ placeAnswer r ≡ readPlace (classes fixed (now (strip .entry))) start n i ⌝ }
+{
+    if n < i {
+        return PlaceAnswer::Refused(refusal::at(Reason::WrongSize, 0));
+    }
+    match copies_at(strip.len(), start, n) {
+        CopiesAnswer::Refused(r) => PlaceAnswer::Refused(r),
+        CopiesAnswer::Accepted(copies) => {
+            let one = copies.one;
+            let two = copies.two;
+            PlaceAnswer::Accepted(looking::place_in(Thresholds::fixed(), strip, one, two, i))
+        }
+    }
+}
+
+// Where the copies lie, on a strip of that many pulses. It refuses a wrong n and a strip that ends before copy two does.
+fn copies_at(count: usize, start: usize, n: usize) -> CopiesAnswer
+    ensures { λ r. ⌜ copiesAnswer r ≡ copiesAt count start n ⌝ }
+{
+    if wrong_size(n) {
+        return CopiesAnswer::Refused(refusal::at(Reason::WrongSize, 0));
+    }
+    start::locate_copies(count, start, n)
+}
+
+// Whether no block has n payload bytes.
+pub fn wrong_size(n: usize) -> bool
     ensures { λ r. ⌜ r ≡ wrongSize n ⌝ }
 {
     (n == 0) | (MOST_BYTES < n)

@@ -2,6 +2,7 @@
 use super::BlockAnswer;
 use super::COUNTDOWNS;
 use super::Extent;
+use super::PlaceRead;
 use super::flags;
 use super::values;
 use byte::ByteRead;
@@ -21,17 +22,11 @@ ghost use Rattle.byte.specs.Byte.{readFrame, isGood};
 ghost use Rattle.start.specs.Start.{foundAt};
 ghost use Rattle.start.specs.Copies.{copyPulses, copyTwo, endOf};
 ghost use Rattle.block.specs.Reading.{isCounted, isMiscounted, placeAt, readCopies, readAt, BlockPromise};
-ghost use Rattle.block.specs.private.Checks.{placeRead, Checked};
-
-// What rule 4 says of a place: its value is copy one's, or it is copy two's, or it is lost.
-enum PlaceRead {
-    One(u8),
-    Two(u8),
-    Neither,
-}
+ghost use Rattle.block.specs.Looking.{placeRead};
+ghost use Rattle.block.specs.private.Checks.{Checked};
 
 // What rules 4 and 5 say of the values. Sound ones come with the number of repaired places, the checksum's among them.
-enum Check {
+pub enum Check {
     Sound(usize),
     LostAt(usize),
     WrongSum,
@@ -116,7 +111,7 @@ fn holds(t: Thresholds, frame: &[u32], value: u8) -> bool
     read == value
 }
 
-fn first_miscounted(t: Thresholds, strip: &[u32], one: usize, two: usize) -> Found
+pub fn first_miscounted(t: Thresholds, strip: &[u32], one: usize, two: usize) -> Found
     requires { ⌜ (one ≤ two) × (two + 20 * 9 ≤ length (now strip)) ⌝ }
     ensures { λ r. ⌜ foundAt r ≡ firstFrom (isMiscounted (classes t (now (strip .entry))) one two) 9 0 ⌝ }
 {

@@ -6,17 +6,18 @@ use pulse::Thresholds;
 use start::COUNTDOWN_BYTES;
 ghost use Prim.Native.Nat.{_+_, _-_, _*_, _≤_, _<_};
 ghost use mathlib.Core.Path.{_≡_};
-ghost use mathlib.Core.Bool.{false};
+ghost use mathlib.Core.Bool.{false, cond};
+ghost use lib.Dec.{ltb};
 ghost use lib.ListN.{length};
 ghost use lib.Seq.{sets};
 ghost use Rattle.lists.specs.Places.{tabulate};
 ghost use Rattle.pulse.specs.Pulse.{classes};
 ghost use Rattle.start.specs.Copies.{copyPulses};
 ghost use Rattle.block.specs.Reading.{isLost, valueAt, valuesAt};
-ghost use Rattle.block.specs.private.Values.{bitsAt, bitsOf};
+ghost use Rattle.block.specs.private.Values.{bitsAt, bitsOf, HoldsBits};
 ghost use Rattle.block.specs.private.Checks.{repairs, Flagged, SameFlags, NoneLost};
 
-// Puts the values of a block that passed, from one copy alone where no place or every place is repaired.
+// Puts the values of a block that passed: the bits of one copy, and where some places are repaired and some are not, these again.
 pub fn fill_values(
     t: Thresholds,
     strip: &[u32],
@@ -31,19 +32,22 @@ pub fn fill_values(
     requires { ⌜ NoneLost (classes t (now strip)) one two n × (repaired ≡ repairs (classes t (now strip)) one two n) × Flagged (classes t (now strip)) one two n (now row) ⌝ }
     ensures { λ _. ⌜ now (out .exit) ≡ sets (now (out .entry)) 0 (valuesAt (classes t (now (strip .entry))) one two n) ⌝ }
 {
-    if repaired == 0 {
-        fill_copy(t, strip, one, 0, n, out);
+    fill_copy(t, strip, whole_copy(one, two, n, repaired), 0, n, out);
+    if (repaired == 0) | (n < repaired) {
         return;
     }
-    if n < repaired {
-        fill_copy(t, strip, two, 0, n, out);
-        return;
-    }
-    fill_runs(t, strip, one, two, n, row, out);
+    mend_runs(t, strip, one, two, n, row, out);
 }
 
-// Puts the values run by run. In a run whose flags are down they are copy one's bits.
-fn fill_runs(
+// The copy whose bits are put first: copy two where every place is repaired, else copy one.
+fn whole_copy(one: usize, two: usize, n: usize, repaired: usize) -> usize
+    ensures { λ r. ⌜ r ≡ cond (ltb n repaired) two one ⌝ }
+{
+    if n < repaired { two } else { one }
+}
+
+// Puts the values run by run into a buffer that holds copy one's bits. In a run whose flags are down these are the values.
+fn mend_runs(
     t: Thresholds,
     strip: &[u32],
     one: usize,
@@ -53,7 +57,7 @@ fn fill_runs(
     out: &mut [u8],
 )
     requires { ⌜ (one ≤ two) × (two + copyPulses n ≤ length (now strip)) × (n ≤ length (now out)) ⌝ }
-    requires { ⌜ NoneLost (classes t (now strip)) one two n × Flagged (classes t (now strip)) one two n (now row) ⌝ }
+    requires { ⌜ NoneLost (classes t (now strip)) one two n × Flagged (classes t (now strip)) one two n (now row) × HoldsBits t (now strip) one n (now out) 0 ⌝ }
     ensures { λ _. ⌜ now (out .exit) ≡ sets (now (out .entry)) 0 (valuesAt (classes t (now (strip .entry))) one two n) ⌝ }
 {
     let mut i: usize = 0;
@@ -61,8 +65,6 @@ fn fill_runs(
         let end = run_end(row, i, n);
         if flags::flag(row, i / flags::GROUP_PLACES) {
             fill_places(t, strip, one, two, i, end, out);
-        } else {
-            fill_copy(t, strip, one, i, end, out);
         }
         i = end;
     }

@@ -1,9 +1,11 @@
 -- Outcomes as the plain structs of the C interface.
 use Prim.Native.Nat.{ℕ}
+use mathlib.Core.Bool.{cond}
 use mathlib.Core.List.{List}
+use lib.Dec.{eqb}
 use lib.ListN.{length}
 use Rattle.refusal.specs.Refusal.{Why}
-use Rattle.refusal.specs.Outcome.{Outcome, refused, accepted}
+use Rattle.refusal.specs.Outcome.{Outcome, refused, accepted, mapped}
 use Rattle.refusal.specs.Promise.{Answers, Fills, itself}
 use Rattle.block.specs.declared.Extent.{Extent}
 use Rattle.block.specs.Reading.{BlockRead, extentOf, payloadOf}
@@ -11,6 +13,11 @@ use Rattle.header.specs.declared.Fields.{Fields}
 use Rattle.header.specs.Header.{Span}
 use Rattle.file.specs.declared.Loaded.{Loaded}
 use Rattle.file.specs.Reading.{FileRead, loadedOf, headerOf, bytesOf}
+use Rattle.wear.specs.declared.Totals.{Totals}
+use Rattle.wear.specs.declared.Trial.{Trial}
+use Rattle.wear.specs.declared.Trial.the-variants.{Header, Data}
+use Rattle.wear.specs.declared.Spot.{Spot}
+use Rattle.wear.specs.Walk.{Block}
 use Rattle.tap.specs.declared.TapInfo.{TapInfo}
 use Rattle.tap.specs.Reading.{Tap, infoOf, durationsOf}
 use Rattle.capi.specs.declared.TapeRefusal.{TapeRefusal}
@@ -19,6 +26,10 @@ use Rattle.capi.specs.declared.TapeBlock.{TapeBlock}
 use Rattle.capi.specs.declared.TapeFile.{TapeFile}
 use Rattle.capi.specs.declared.TapeTap.{TapeTap}
 use Rattle.capi.specs.declared.TapeSpan.{TapeSpan}
+use Rattle.capi.specs.declared.TapeWear.{TapeWear}
+use Rattle.capi.specs.declared.TapeReport.{TapeReport}
+use Rattle.capi.specs.declared.TapeWalk.{TapeWalk}
+use Rattle.capi.specs.declared.TapeWalked.{TapeWalked}
 
 -- ---- The view
 
@@ -30,7 +41,7 @@ noRefusal = record { number = 0; block = 0; place = 0 }
 abbrev pub flatRefusal : Why → TapeRefusal
 flatRefusal why = record { number = why .number; block = why .block; place = why .place }
 
--- An outcome as a struct that `make` builds of its refusal and what was given; a refusal gives `none`, in which every number is 0.
+-- An outcome as a struct that `make` builds of its refusal and what was given; a refusal gives `none`.
 abbrev pub flat : {A B : Type 0} (make : TapeRefusal → A → B) (none : A) → Outcome A → B
 flat make none (refused why) = make (flatRefusal why) none
 flat make none (accepted given) = make noRefusal given
@@ -88,6 +99,76 @@ spanStruct refusal s = record { refusal = refusal; offset = s .offset; length = 
 
 abbrev pub flatSpan : Outcome Span → TapeSpan
 flatSpan = flat spanStruct noSpan
+
+-- ---- How worn strips are
+
+-- the totals as they are lent and handed back
+abbrev pub totalsOf : TapeWear → Totals
+totalsOf w = record {
+  strips = w .strips;
+  shorts = w .shorts;
+  mediums = w .mediums;
+  longs = w .longs;
+  noises = w .noises;
+  one = w .one;
+  two = w .two;
+  lost = w .lost;
+}
+
+abbrev pub wearOf : Totals → TapeWear
+wearOf t = record {
+  strips = t .strips;
+  shorts = t .shorts;
+  mediums = t .mediums;
+  longs = t .longs;
+  noises = t .noises;
+  one = t .one;
+  two = t .two;
+  lost = t .lost;
+}
+
+abbrev pub reportStruct : TapeRefusal → TapeWear → TapeReport
+reportStruct refusal totals = record { refusal = refusal; totals = totals }
+
+-- by a refusal the totals stay as they were lent
+abbrev pub flatReport : (lent : TapeWear) → Outcome Totals → TapeReport
+flatReport lent o = flat reportStruct lent (mapped wearOf o)
+
+-- with length 0 a header is tried
+abbrev pub trialOf : (length : ℕ) → Trial
+trialOf length = cond (eqb length 0) Header (Data length)
+
+abbrev pub lengthOf : Trial → ℕ
+lengthOf Header = 0
+lengthOf (Data n) = n
+
+abbrev pub spotOf : TapeWalk → Spot
+spotOf w = record { from = w .from; trial = trialOf (w .length) }
+
+abbrev pub walkOf : Spot → TapeWalk
+walkOf s = record { from = s .from; length = lengthOf (s .trial) }
+
+-- a block that was found: where 4 to 7 refuse it, it has no end; what else is known of it is told
+abbrev pub flatTried : Block → TapeWalked
+flatTried b = record {
+  refusal = flatBlock (b .outcome) .refusal;
+  found = 1;
+  n = b .n;
+  start = b .start;
+  end = flatBlock (b .outcome) .end;
+  one = b .tally .one;
+  two = b .tally .two;
+  lost = b .tally .lost;
+  next = walkOf (b .next);
+}
+
+-- none was found: where the walk stands is as it was lent
+abbrev pub noBlock : (lent : TapeWalk) → Why → TapeWalked
+noBlock lent why = record { refusal = flatRefusal why; found = 0; n = 0; start = 0; end = 0; one = 0; two = 0; lost = 0; next = lent }
+
+abbrev pub flatStep : (lent : TapeWalk) → Outcome Block → TapeWalked
+flatStep lent (refused why) = noBlock lent why
+flatStep lent (accepted b) = flatTried b
 
 -- ---- What a call promises: it answers r and leaves in each lent buffer what the outcome puts, then what it held
 

@@ -8,6 +8,12 @@ use header::HeaderAnswer;
 use refusal::Put;
 use refusal::Refusal;
 use tap::TapAnswer;
+use wear::ReportAnswer;
+use wear::Spot;
+use wear::Step;
+use wear::Totals;
+use wear::Trial;
+use wear::Tried;
 ghost use mathlib.Core.Path.{_≡_};
 ghost use lib.ListN.{length};
 ghost use Rattle.refusal.specs.Refusal.{whyOf};
@@ -19,12 +25,14 @@ ghost use Rattle.block.specs.Reading.{readBlock, blockAnswer};
 ghost use Rattle.header.specs.Header.{packHeader, unpackHeader, headerAnswer, shownSpan};
 ghost use Rattle.file.specs.File.{file, writeFile};
 ghost use Rattle.file.specs.Reading.{readFile, fileAnswer};
+ghost use Rattle.wear.specs.Walk.{stepFrom, triedBlock, stepAnswer};
+ghost use Rattle.wear.specs.Report.{reportStrip, reportAnswer};
 ghost use Rattle.tap.specs.Tap.{writeTap};
 ghost use Rattle.tap.specs.Reading.{readTap, tapAnswer};
-ghost use Rattle.capi.specs.Flat.{noRefusal, flatRefusal, flatPut, flatBlock, loneHeader, flatFile, flatTap, flatSpan, PutFlat, BlockFlat, FileFlat, TapFlat};
+ghost use Rattle.capi.specs.Flat.{noRefusal, flatRefusal, flatPut, flatBlock, loneHeader, flatFile, flatTap, flatSpan, totalsOf, wearOf, flatReport, spotOf, walkOf, flatTried, flatStep, PutFlat, BlockFlat, FileFlat, TapFlat};
 
 // Why a call refuses: the number of the refusal, the block and the place. All are 0 where it accepts; where it refuses, all numbers of the
-// answer after the refusal are 0.
+// answer after the refusal are 0, but for those of a report and of a step.
 #[repr(C)]
 pub struct TapeRefusal {
     pub number: u32,
@@ -72,6 +80,49 @@ pub struct TapeSpan {
     pub refusal: TapeRefusal,
     pub offset: u64,
     pub length: u64,
+}
+
+// Totals of the report: strips, the pulses of each class, and the places taken from copy one, taken from copy two, and lost.
+#[repr(C)]
+pub struct TapeWear {
+    pub strips: u64,
+    pub shorts: u64,
+    pub mediums: u64,
+    pub longs: u64,
+    pub noises: u64,
+    pub one: u64,
+    pub two: u64,
+    pub lost: u64,
+}
+
+// What the report answers: the totals with the strip added, or, where it refuses, as they were lent.
+#[repr(C)]
+pub struct TapeReport {
+    pub refusal: TapeRefusal,
+    pub totals: TapeWear,
+}
+
+// Where a walk stands: the place from which the next start is looked for, and how many bytes the data block has that is tried there. With
+// length 0 a header is tried.
+#[repr(C)]
+pub struct TapeWalk {
+    pub from: u64,
+    pub length: u64,
+}
+
+// What a step of a walk answers: whether a block was found, its payload bytes, start and end, its places taken from copy one, taken from copy
+// two, and lost, and where the walk goes on. A block that is found and refused has an end of 0; all its other numbers are told.
+#[repr(C)]
+pub struct TapeWalked {
+    pub refusal: TapeRefusal,
+    pub found: u32,
+    pub n: u64,
+    pub start: u64,
+    pub end: u64,
+    pub one: u64,
+    pub two: u64,
+    pub lost: u64,
+    pub next: TapeWalk,
 }
 
 // ---- Blocks
@@ -182,6 +233,22 @@ pub extern "C" fn tape_read_tap(tape: &[u8], out: &mut [u32]) -> TapeTap
     flat_tap(tap::read_tap(tape, out))
 }
 
+// ---- How worn strips are
+
+#[no_mangle]
+pub extern "C" fn tape_report_strip(totals: TapeWear, pulses: &[u32]) -> TapeReport
+    ensures { λ r. ⌜ r ≡ flatReport totals (reportStrip (totalsOf totals) (classes fixed (now (pulses .entry)))) ⌝ }
+{
+    flat_report(totals, wear::report(totals_of(totals), pulses))
+}
+
+#[no_mangle]
+pub extern "C" fn tape_walk_block(pulses: &[u32], at: TapeWalk) -> TapeWalked
+    ensures { λ r. ⌜ r ≡ flatStep at (stepFrom (classes fixed (now (pulses .entry))) (spotOf at)) ⌝ }
+{
+    flat_step(at, wear::step_from(pulses, spot_of(at)))
+}
+
 // ---- Answers as plain structs
 
 fn flat_put(p: Put) -> TapePut
@@ -287,5 +354,124 @@ fn flat_refusal(r: Refusal) -> TapeRefusal
         number: refusal::number_of(reason),
         block: r.block,
         place: r.place as u64,
+    }
+}
+
+// ---- Totals and places
+
+fn totals_of(w: TapeWear) -> Totals
+    ensures { λ r. ⌜ r ≡ totalsOf w ⌝ }
+{
+    Totals {
+        strips: w.strips,
+        shorts: w.shorts,
+        mediums: w.mediums,
+        longs: w.longs,
+        noises: w.noises,
+        one: w.one,
+        two: w.two,
+        lost: w.lost,
+    }
+}
+
+fn wear_of(t: Totals) -> TapeWear
+    ensures { λ r. ⌜ r ≡ wearOf t ⌝ }
+{
+    TapeWear {
+        strips: t.strips,
+        shorts: t.shorts,
+        mediums: t.mediums,
+        longs: t.longs,
+        noises: t.noises,
+        one: t.one,
+        two: t.two,
+        lost: t.lost,
+    }
+}
+
+fn flat_report(lent: TapeWear, answer: ReportAnswer) -> TapeReport
+    ensures { λ r. ⌜ r ≡ flatReport lent (reportAnswer answer) ⌝ }
+{
+    match answer {
+        ReportAnswer::Accepted(totals) => TapeReport {
+            refusal: no_refusal(),
+            totals: wear_of(totals),
+        },
+        ReportAnswer::Refused(r) => TapeReport {
+            refusal: flat_refusal(r),
+            totals: lent,
+        },
+    }
+}
+
+fn spot_of(at: TapeWalk) -> Spot
+    ensures { λ r. ⌜ r ≡ spotOf at ⌝ }
+{
+    let length = at.length;
+    if length == 0 {
+        return Spot {
+            from: at.from as usize,
+            trial: Trial::Header,
+        };
+    }
+    Spot {
+        from: at.from as usize,
+        trial: Trial::Data(length as usize),
+    }
+}
+
+fn walk_of(at: Spot) -> TapeWalk
+    ensures { λ r. ⌜ r ≡ walkOf at ⌝ }
+{
+    let trial = at.trial;
+    match trial {
+        Trial::Header => TapeWalk {
+            from: at.from as u64,
+            length: 0,
+        },
+        Trial::Data(n) => TapeWalk {
+            from: at.from as u64,
+            length: n as u64,
+        },
+    }
+}
+
+fn flat_step(lent: TapeWalk, step: Step) -> TapeWalked
+    ensures { λ r. ⌜ r ≡ flatStep lent (stepAnswer step) ⌝ }
+{
+    match step {
+        Step::Found(b) => flat_tried(b),
+        Step::Refused(r) => TapeWalked {
+            refusal: flat_refusal(r),
+            found: 0,
+            n: 0,
+            start: 0,
+            end: 0,
+            one: 0,
+            two: 0,
+            lost: 0,
+            next: lent,
+        },
+    }
+}
+
+fn flat_tried(b: Tried) -> TapeWalked
+    ensures { λ r. ⌜ r ≡ flatTried (triedBlock b) ⌝ }
+{
+    let answer = b.answer;
+    let tally = b.tally;
+    let next = b.next;
+    let block = flat_block(answer);
+    let refusal = block.refusal;
+    TapeWalked {
+        refusal,
+        found: 1,
+        n: b.n as u64,
+        start: b.start as u64,
+        end: block.end,
+        one: tally.one as u64,
+        two: tally.two as u64,
+        lost: tally.lost as u64,
+        next: walk_of(next),
     }
 }

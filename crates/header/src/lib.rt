@@ -84,6 +84,13 @@ pub fn unpack_header(header: &[u8]) -> HeaderAnswer
     HeaderAnswer::Accepted(fields_of(header))
 }
 
+// Type and addresses by the bytes before the name, whatever the type is.
+pub fn fields_in(front: [u8; NAME_AT]) -> Fields
+    ensures { λ r. ⌜ r ≡ fieldsOf front ⌝ }
+{
+    fields_of(&front)
+}
+
 // The shown name, as the part of the header that holds it: the first 16 bytes of the name without the spaces at their end. It is
 // empty for a header that `unpack_header` refuses.
 pub fn shown_name(header: &[u8]) -> &[u8]

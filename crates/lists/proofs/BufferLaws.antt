@@ -1,15 +1,16 @@
 -- Laws of `putAt`, and of the stores that it is made of.
-use Prim.Native.Nat.{ℕ, suc, _+_, _-_, _≤_, _<_}
+use Prim.Native.Nat.{ℕ, zero, suc, _+_, _-_, _≤_, _<_}
 use native.Mathlib.Nat.{zero-add, add-zero, add-suc, suc-add}
-use native.Mathlib.Decide.{decLe}
+use native.Mathlib.Decide.{ℕ-discrete, decLe, decLt}
 use native.Mathlib.Omega.{arith}
 use mathlib.Core.Path.{_≡_, refl, sym, ap, _∙_}
 use mathlib.Core.List.{List, [], _∷_, _++_, append-assoc, append-nil}
 use borrow.Author.Tests.{le-leb, lt-leb}
-use lib.ListN.{length, take, drop, set, length-append, length-drop, drop-of-length-le}
-use lib.Seq.{length-take-le, take-append-seam, drop-append-seam, take-at, drop-at, drop-drop, take-all, sets, length-sets, sets-eq}
-use Rattle.lists.specs.Places.{part}
+use lib.ListN.{length, take, drop, getD, set, length-set, length-append, length-drop, drop-of-length-le}
+use lib.Seq.{length-take-le, take-append-seam, drop-append-seam, take-at, drop-at, drop-drop, take-all, sets, length-sets, sets-eq, getD-set-same, getD-set-other, ext-getD}
+use Rattle.lists.specs.Places.{tabulate, part}
 use Rattle.lists.specs.Buffer.{putAt}
+use Rattle.lists.proofs.PlaceLaws.{length-tabulate}
 
 -- where there is room, the values are stored one after the other
 pub put-room : (buffer : List ℕ) (at : ℕ) (values : List ℕ) → at + length values ≤ length buffer → sets buffer at values ≡ putAt buffer at values
@@ -92,3 +93,55 @@ sets-lent buffer values at h e =
 pub sets-append : (xs ys buffer : List ℕ) (at : ℕ) → sets buffer at (xs ++ ys) ≡ sets (sets buffer at xs) (at + length xs) ys
 sets-append [] ys buffer at = rw add-zero
 sets-append (x ∷ xs) ys buffer at = sets-append xs ys (set buffer at x) (suc at) ∙ rw (add-suc, suc-add)
+
+-- ---- Values stored by their places
+
+-- what stands after them stays
+pub getD-after : (vs l : List ℕ) (at j : ℕ) → at + length vs ≤ j → getD (sets l at vs) j 0 ≡ getD l j 0
+getD-after [] l at j h = refl
+getD-after (v ∷ vs) l at j h = getD-after vs (set l at v) (suc at) j (omega arith) ∙ getD-set-other l at j v 0 (λ e. omega arith)
+
+-- what stands before them stays
+pub getD-before : (vs l : List ℕ) (at j : ℕ) → j < at → getD (sets l at vs) j 0 ≡ getD l j 0
+getD-before [] l at j h = refl
+getD-before (v ∷ vs) l at j h = getD-before vs (set l at v) (suc at) j (omega arith) ∙ getD-set-other l at j v 0 (λ e. omega arith)
+
+-- they are there
+pub getD-stored : (f : ℕ → ℕ) (count at : ℕ) (l : List ℕ) (j : ℕ) → at + count ≤ length l → at ≤ j → j < at + count
+    → getD (sets l at (tabulate f count at)) j 0 ≡ f j
+unfolding tabulate
+getD-stored f zero at l j h a b = absurd (omega arith)
+getD-stored f (suc count) at l j h a b = elim (ℕ-discrete j at) [
+  | yes e ↦ rw e (getD-before (tabulate f count (suc at)) (set l at (f at)) (suc at) at (omega arith) ∙ getD-set-same l at (f at) 0 (omega arith))
+  | no e ↦ getD-stored f count (suc at) (set l at (f at)) j (omega (arith, length-set l at (f at))) (omega arith) (omega arith)
+]
+
+-- stored where they stand already, they change nothing
+pub sets-there : (f : ℕ → ℕ) (count at : ℕ) (l : List ℕ) → at + count ≤ length l → ((j : ℕ) → at ≤ j → j < at + count → getD l j 0 ≡ f j)
+    → sets l at (tabulate f count at) ≡ l
+sets-there f count at l h e =
+    let vs = tabulate f count at in
+    let long = length-tabulate f count at in
+    ext-getD 0 (sets l at vs) l (length-sets l at vs) (λ j b. elim (decLt j at) [
+      | yes p ↦ getD-before vs l at j p
+      | no p ↦ elim (decLt j (at + count)) [
+        | yes q ↦ getD-stored f count at l j h (omega arith) q ∙ sym (e j (omega arith) q)
+        | no q ↦ getD-after vs l at j (omega arith)
+      ]
+    ])
+
+-- stored over others, they are there alone
+pub sets-over : (f g : ℕ → ℕ) (count at : ℕ) (l : List ℕ) → at + count ≤ length l → sets (sets l at (tabulate f count at)) at (tabulate g count at) ≡ sets l at (tabulate g count at)
+sets-over f g count at l h =
+    let fs = tabulate f count at in
+    let gs = tabulate g count at in
+    let long = length-tabulate f count at in
+    let long′ = length-tabulate g count at in
+    let same = length-sets l at fs in
+    ext-getD 0 (sets (sets l at fs) at gs) (sets l at gs) (length-sets (sets l at fs) at gs ∙ same ∙ sym (length-sets l at gs)) (λ j b. elim (decLt j at) [
+      | yes p ↦ getD-before gs (sets l at fs) at j p ∙ getD-before fs l at j p ∙ sym (getD-before gs l at j p)
+      | no p ↦ elim (decLt j (at + count)) [
+        | yes q ↦ getD-stored g count at (sets l at fs) j (omega arith) (omega arith) q ∙ sym (getD-stored g count at l j h (omega arith) q)
+        | no q ↦ getD-after gs (sets l at fs) at j (omega arith) ∙ getD-after fs l at j (omega arith) ∙ sym (getD-after gs l at j (omega arith))
+      ]
+    ])

@@ -1,5 +1,6 @@
 pub mod BoolLaws
 pub mod PlaceLaws
+pub mod CountLaws
 pub mod PartLaws
 pub mod BufferLaws
 pub mod LoopLaws

@@ -18,6 +18,11 @@ pub record First (f : ℕ → Bool) (count at p : ℕ) : Type 0 where
   pub passes : f p ≡ true
   pub least : (i : ℕ) → at ≤ i → i < p → f i ≡ false
 
+-- how many of the numbers below n pass a test
+unfoldable pub countBelow : (ℕ → Bool) → ℕ → ℕ
+countBelow f zero = 0
+countBelow f (suc n) = cond (f n) 1 0 + countBelow f n
+
 -- f at, f (at + 1) .. f (at + count - 1)
 unfoldable pub tabulate : (ℕ → ℕ) → ℕ → ℕ → List ℕ
 tabulate f zero at = []

@@ -7,7 +7,7 @@ use Rattle.refusal.specs.declared.Refusal.{Refusal}
 -- the number of each reason, which is given exactly when
 abbrev pub numberOf : Reason → ℕ
 -- n is 0 or over 8,192; over 1,048,576 durations to write as TAP; a name over 187 bytes; a lone header to unpack is not 192 bytes;
--- listing input over 16 KiB
+-- listing input over 16 KiB; a report of totals that count 1,000 strips or have one above 1,000,000,000,000, or of over 1,048,576 pulses
 numberOf WrongSize = 1
 -- an output is shorter than what must be put there
 numberOf NoRoom = 2

@@ -4,7 +4,7 @@ use native.Mathlib.Omega.{arith}
 use mathlib.Core.Path.{_≡_, refl, sym, ap, ap₂, _∙_}
 use mathlib.Core.Bool.{true, false, _&&_}
 use mathlib.Core.List.{List, [], _∷_}
-use mathlib.Core.Option.{none, some}
+use mathlib.Core.Option.{Option, none, some}
 use borrow.Author.Tests.{le-leb, leb-true}
 use lib.Dec.{leb}
 use lib.ListN.{length, getD, replicate, length-take, length-drop, getD-replicate}
@@ -13,6 +13,7 @@ use Rattle.lists.specs.Places.{part}
 use Rattle.lists.proofs.BoolLaws.{and-true, not-holds}
 use Rattle.lists.proofs.PartLaws.{getD-part}
 use Rattle.lists.proofs.PlaceLaws.{none-first, first-none, some-first, first-some}
+use Rattle.refusal.specs.Outcome.{accepted}
 use Rattle.pulse.specs.declared.Class.{Class}
 use Rattle.pulse.specs.declared.Class.the-variants.{Short, Noise}
 use Rattle.pulse.specs.Pulse.{same}
@@ -20,7 +21,7 @@ use Rattle.pulse.proofs.PulseLaws.{same-eq}
 use Rattle.byte.specs.declared.ByteRead.the-variants.{Good}
 use Rattle.byte.specs.Byte.{byteAt, isGood}
 use Rattle.byte.proofs.ByteLaws.{isGood-true, byteAt-short, byteAt-within}
-use Rattle.start.specs.Start.{allShort, isStart, Start, startOf}
+use Rattle.start.specs.Start.{allShort, isStart, Start, startOf, startAt, findStart}
 
 -- ---- Tests
 
@@ -102,6 +103,17 @@ module _ {cs : List Class} {from : ℕ} where
 -- a `from` past the strip gives none
 pub startOf-past : (cs : List Class) (from : ℕ) → length cs ≤ from → startOf cs from ≡ none
 startOf-past cs from h = startOf-nowhere (λ p s. let within = byteAt-within cs p 0x89 (s .first) in omega (arith, s .far))
+
+-- a start that is found is past `from`, and its byte lies on the strip
+pub findStart-within : (cs : List Class) (from p : ℕ) → findStart cs from ≡ accepted p → (from + 16 ≤ p) × (p + 20 ≤ length cs)
+unfolding findStart
+findStart-within cs from p e =
+    let s = startOf-some {cs = cs} {from = from} (found (startOf cs from) e) .0 in
+    (s .far, byteAt-within cs p 0x89 (s .first))
+  where
+    found : (o : Option ℕ) → startAt o ≡ accepted p → o ≡ some p
+    found none q = absurd (let z : _≡_ {A = ℕ} 0 1 = cc in omega arith)
+    found (some r) q = cc
 
 -- ---- Only short pulses between `from` and a good $89
 

@@ -1,16 +1,18 @@
 -- What the reader's own enums stand for, and what it keeps of the places whose value is copy two's.
-use Prim.Native.Nat.{ℕ, zero, suc, _+_, _≤_, _<_}
+use Prim.Native.Nat.{ℕ, _+_, _≤_, _<_}
 use mathlib.Core.Path.{_≡_}
-use mathlib.Core.Bool.{Bool, true, false, cond}
+use mathlib.Core.Bool.{Bool, true, false}
 use mathlib.Core.List.{List}
 use mathlib.Core.Option.{Option, none, some}
 use Rattle.lists.specs.Places.{firstFrom}
+use Rattle.refusal.specs.declared.Reason.the-variants.{LostByte, WrongChecksum}
+use Rattle.refusal.specs.Outcome.{Outcome, accepted, refuse}
 use Rattle.pulse.specs.declared.Class.{Class}
+use Rattle.block.specs.declared.Extent.{Extent}
 use Rattle.block.specs.declared.rules.Check.{Check}
 use Rattle.block.specs.declared.rules.Check.the-variants.{Sound, LostAt, WrongSum}
-use Rattle.block.specs.declared.rules.PlaceRead.{PlaceRead}
-use Rattle.block.specs.declared.rules.PlaceRead.the-variants.{One, Two, Neither}
-use Rattle.block.specs.Reading.{Place, FromOne, FromTwo, Lost, isLost, sumHolds, placeAt}
+use Rattle.block.specs.Reading.{isLost, sumHolds, placeAt}
+use Rattle.block.specs.Looking.{isFromTwo, placesFrom}
 use Rattle.block.specs.private.Flags.{flagAt, groupOf}
 
 -- the first lost place, if there is one; else whether the checksum holds, with the number of repaired places
@@ -19,31 +21,20 @@ checkOf (some place) holds repaired = LostAt place
 checkOf none true repaired = Sound repaired
 checkOf none false repaired = WrongSum
 
--- the place that was read
-abbrev pub placeRead : PlaceRead → Place
-placeRead (One v) = FromOne v
-placeRead (Two v) = FromTwo v
-placeRead Neither = Lost
+-- what that comes to, for a block that stands there
+abbrev pub checkAnswer : Check → Extent → Outcome Extent
+checkAnswer (LostAt place) extent = refuse LostByte place
+checkAnswer WrongSum extent = refuse WrongChecksum (extent .n)
+checkAnswer (Sound repaired) extent = accepted extent
 
 -- ---- What is kept: the number of repaired places, and a flag for each group that has one
-
--- the value is copy two's
-abbrev pub isFromTwo : Place → Bool
-isFromTwo (FromOne v) = false
-isFromTwo (FromTwo v) = true
-isFromTwo Lost = false
 
 abbrev pub isRepaired : (cs : List Class) (one two i : ℕ) → Bool
 isRepaired cs one two i = isFromTwo (placeAt cs one two i)
 
--- how many of the numbers below n pass a test
-unfoldable pub countBelow : (ℕ → Bool) → ℕ → ℕ
-countBelow f zero = 0
-countBelow f (suc n) = cond (f n) 1 0 + countBelow f n
-
 -- how many of the n + 1 places, the checksum's among them, are repaired
 abbrev pub repairs : (cs : List Class) (one two n : ℕ) → ℕ
-repairs cs one two n = countBelow (isRepaired cs one two) (n + 1)
+repairs cs one two n = placesFrom isFromTwo cs one two n
 
 -- where the flag of its group is down, a place below n is not repaired
 abbrev pub Flagged : (cs : List Class) (one two n : ℕ) (row : List ℕ) → Type 0

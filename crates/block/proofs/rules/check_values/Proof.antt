@@ -6,7 +6,7 @@ use mathlib.Core.Path.{sym, ap, _∙_}
 use mathlib.Core.Logic.{⊎-elim}
 use borrow.Author.Needs.{needs}
 use Rattle.pulse.specs.Pulse.{classes}
-use Rattle.block.specs.private.Checks.{placeRead}
+use Rattle.block.specs.Looking.{placeRead}
 use Rattle.block.proofs.Checking.{Checking, checking-begun, checkValues-lost, checkValues-sound, checkValues-wrongSum, checking-few, checking-one, checking-two}
 use Rattle.block.proofs.rules.check_values.Statement.{statement}
 use Rattle.block.proofs.rules.check_values.Tie as tie

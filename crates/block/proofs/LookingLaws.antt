@@ -1,0 +1,45 @@
+-- Laws of looking at a block: what it answers is what reading there gives, and what its counts add up to.
+use Prim.Native.Nat.{ℕ, _+_, _≤_, _<_}
+use mathlib.Core.Path.{_≡_, refl}
+use mathlib.Core.Bool.{false}
+use mathlib.Core.List.{List}
+use borrow.Author.Tests.{le-ltb}
+use lib.ListN.{length}
+use Rattle.refusal.specs.declared.Reason.the-variants.{CutShort}
+use Rattle.refusal.specs.Outcome.{Outcome, refused, accepted, refuse, mapped, andThen}
+use Rattle.pulse.specs.declared.Class.{Class}
+use Rattle.start.specs.declared.Copies.{Copies}
+use Rattle.start.specs.Copies.{copyTwo, endOf, locateCopies}
+use Rattle.start.proofs.CopiesLaws.{locateCopies-cutShort, locateCopies-within}
+use Rattle.block.specs.Block.{wrongSize}
+use Rattle.block.specs.Reading.{placeAt, extentOf, readCopies, readAt}
+use Rattle.block.specs.Looking.{tallyOf, noTally, counted, lookedAt, copiesAt, lookAt, readPlace}
+use Rattle.block.proofs.Counting.{places-whole}
+
+pub tally-whole : (cs : List Class) (one two n : ℕ) → counted (tallyOf cs one two n) ≡ n + 1
+unfolding tallyOf
+tally-whole cs one two n = places-whole cs one two n
+
+module _ (cs : List Class) (p n : ℕ) (size : wrongSize n ≡ false) where
+  by-copies : (o : Outcome Copies) → lookedAt o cs p n .outcome ≡ mapped extentOf (andThen o (λ copies. readCopies cs p n))
+  by-copies (refused why) = refl
+  by-copies (accepted copies) = refl
+
+  -- what is answered is what reading at that start gives
+  pub look-reads : lookAt cs p n .outcome ≡ mapped extentOf (readAt cs p n)
+  unfolding lookAt copiesAt readAt
+  look-reads = rw size (by-copies (locateCopies (length cs) p n))
+
+  -- a block that lies on the strip has n + 1 places, all of them counted
+  pub look-within : endOf p n ≤ length cs → lookAt cs p n .tally ≡ tallyOf cs p (copyTwo p n) n
+  unfolding lookAt copiesAt
+  look-within h = rw (size, locateCopies-within (length cs) p n h)
+
+  -- of one that is cut short nothing is counted
+  pub look-cutShort : length cs < endOf p n → lookAt cs p n ≡ record { outcome = refuse CutShort p; tally = noTally }
+  unfolding lookAt copiesAt
+  look-cutShort h = rw (size, locateCopies-cutShort (length cs) p n h)
+
+  pub place-within : (i : ℕ) → endOf p n ≤ length cs → i ≤ n → readPlace cs p n i ≡ accepted (placeAt cs p (copyTwo p n) i)
+  unfolding readPlace copiesAt
+  place-within i within h = rw (le-ltb n i h, size, locateCopies-within (length cs) p n within)

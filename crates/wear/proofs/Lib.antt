@@ -1,0 +1,7 @@
+mod Held
+mod Steps
+mod ClassLaws
+pub mod WalkLaws
+mod Walking
+mod Adding
+pub mod Claims

@@ -1,0 +1,4 @@
+pub mod Walk
+pub mod Report
+pub mod Claim
+pub mod private

@@ -1,0 +1,43 @@
+-- What is counted on one strip, and the totals with it.
+use Prim.Native.Nat.{_+_, _^_, _<_}
+use mathlib.Core.List.{List}
+use Rattle.pulse.specs.declared.Class.{Class}
+use Rattle.pulse.specs.declared.Class.the-variants.{Short, Medium, Long, Noise}
+use Rattle.block.specs.declared.Tally.{Tally}
+use Rattle.wear.specs.declared.Totals.{Totals}
+use Rattle.wear.specs.declared.count.Pulses.{Pulses}
+use Rattle.wear.specs.Walk.{Block}
+use Rattle.wear.specs.Report.{countOf, total, oneOf, twoOf, lostOf}
+
+-- the pulses of each class
+unfoldable pub pulsesOf : (cs : List Class) → Pulses
+pulsesOf cs = record { shorts = countOf Short cs; mediums = countOf Medium cs; longs = countOf Long cs; noises = countOf Noise cs }
+
+-- the places of some blocks
+unfoldable pub placesOf : List Block → Tally
+placesOf bs = record { one = total oneOf bs; two = total twoOf bs; lost = total lostOf bs }
+
+-- ---- One strip more
+
+abbrev pub sums : Totals → Pulses → Tally → Totals
+sums t pulses places = record {
+  strips = t .strips + 1;
+  shorts = t .shorts + pulses .shorts;
+  mediums = t .mediums + pulses .mediums;
+  longs = t .longs + pulses .longs;
+  noises = t .noises + pulses .noises;
+  one = t .one + places .one;
+  two = t .two + places .two;
+  lost = t .lost + places .lost;
+}
+
+-- no sum is too large
+pub record SumsFit (t : Totals) (pulses : Pulses) (places : Tally) : Type 0 where
+  pub strips : t .strips + 1 < 2 ^ 64
+  pub shorts : t .shorts + pulses .shorts < 2 ^ 64
+  pub mediums : t .mediums + pulses .mediums < 2 ^ 64
+  pub longs : t .longs + pulses .longs < 2 ^ 64
+  pub noises : t .noises + pulses .noises < 2 ^ 64
+  pub one : t .one + places .one < 2 ^ 64
+  pub two : t .two + places .two < 2 ^ 64
+  pub lost : t .lost + places .lost < 2 ^ 64
