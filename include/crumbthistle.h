@@ -13,7 +13,8 @@
  * is for x86-64 Linux and uses nothing of the C library but memcpy and memset.
  *
  * Refusals. Every answer begins with a tape_refusal. Where a call refuses, every number of its answer after that is 0, and no buffer has
- * been altered. Where several refusals apply, the first in the call's order is given.
+ * been altered; tape_walk_block and tape_report_strip say what theirs hold. Where several refusals apply, the first in the call's order is
+ * given.
  *
  * Pulses are full periods as counts of CPU cycles. 200 to 439 are short, 440 to 607 medium, 608 to 959 long, all others noise; written are
  * 360, 520 and 688. A place is an index, from 0 on.
@@ -29,12 +30,14 @@ extern "C" {
 #endif
 
 /* The version of this interface. It is raised with every change of a call, a struct or a number below that a program which was built
- * before would notice. In version 2 the long form of TAP files counts cycles, where it counted units of eight cycles. */
-#define TAPE_VERSION 2
+ * before would notice. In version 2 the long form of TAP files counts cycles, where it counted units of eight cycles. In version 3
+ * tape_read_block and tape_read_file need more stack. */
+#define TAPE_VERSION 3
 
 enum {
     TAPE_ACCEPTED = 0,
-    TAPE_WRONG_SIZE = 1,          /* n is 0 or over 8,192; over 1,048,576 durations to write; a name over 187 bytes; a header of not 192 */
+    TAPE_WRONG_SIZE = 1,          /* n is 0 or over 8,192; over 1,048,576 durations to write, or pulses to report; a name over 187 bytes; a
+                                     header of not 192; a report of 1,000 strips, or with a total above 1,000,000,000,000 */
     TAPE_NO_ROOM = 2,             /* an output is shorter than what must be put there */
     TAPE_NO_START = 3,            /* there is no start: no 16 short pulses at or after `from` with a good byte $89 just after them */
     TAPE_CUT_SHORT = 4,           /* the pulses end before copy two does; place: the block's start */
@@ -84,6 +87,22 @@ typedef struct { tape_refusal refusal; uint32_t version; uint64_t count; } tape_
 /* A part of a buffer: where it begins, and how many bytes it has. */
 typedef struct { tape_refusal refusal; uint64_t offset, length; } tape_span;
 
+/* Totals of a report: strips, the pulses of each class on them, and the places of all blocks of their walks (payload bytes and checksums) taken
+ * from copy one, taken from copy two, and lost. All are 0 to begin with. */
+typedef struct { uint64_t strips, shorts, mediums, longs, noises, one, two, lost; } tape_wear;
+
+/* What the report answers: the totals with the strip added, or, where it refuses, the totals as they were lent. */
+typedef struct { tape_refusal refusal; tape_wear totals; } tape_report;
+
+/* Where a walk stands: the place from which the next start is looked for, and how many bytes the data block has that is tried there. With
+ * length 0 a header is tried; with length 192 a data block of 192 bytes. A walk begins with {0, 0}. */
+typedef struct { uint64_t from, length; } tape_walk;
+
+/* What a step of a walk answers. `found` is 1 where a start was found, and a block tried there: its payload bytes and its start are told, its
+ * places taken from copy one, taken from copy two, and lost, and where the walk goes on, also where the block is refused. `end` is the place
+ * after copy two of an accepted block, 0 for a refused one. */
+typedef struct { tape_refusal refusal; uint32_t found; uint64_t n, start, end, one, two, lost; tape_walk next; } tape_walked;
+
 /* Writes a block: a leader of that many short pulses, and the n payload bytes with countdown and checksum, twice. `out` has `room` places
  * and needs TAPE_BLOCK_PULSES(n, leader). Refuses, in this order: 1, 14, 2. */
 tape_put tape_write_block(const uint8_t *payload, size_t n, uint64_t leader, uint32_t *out, size_t room);
@@ -104,8 +123,11 @@ tape_put tape_write_file(uint8_t type, uint16_t start, uint16_t end, const uint8
  * start, at most 8,192. Neither is touched unless both blocks are accepted. Refuses, in this order: 3 to 7 for the header (block 0), 8, 9, 2,
  * 3 to 7 for the data (block 1).
  *
- * A next file is read from `stop` on. After a refusal, tape_read_block with n = 192 tells where a header stands that can be read; go on from
- * its `end`.
+ * A next file is read from `stop` on. All files on a tape, also those after a block that is refused, are found by a walk:
+ *
+ *     tape_walked b;
+ *     for (tape_walk at = {0, 0}; (b = tape_walk_block(pulses, count, at)).found; at = b.next)
+ *         if (b.next.length) file = tape_read_file(pulses, count, at.from, header, sizeof header, data, sizeof data);
  *
  * Damage. A strip as long as tape_write_file wrote it, read from place 0 with enough room, gives exactly the file that was written, if in
  * each block the leader, the 61 pulses after each copy and copy one's first byte keep their classes, and at each byte place one copy keeps
@@ -135,18 +157,35 @@ tape_put tape_write_tap(const uint32_t *durations, size_t count, uint8_t version
  * cycles. Refuses, in this order: 10 for length and letters, 11, 10 for reserved bytes and count, 12, 2. */
 tape_tap tape_read_tap(const uint8_t *file, size_t len, uint32_t *out, size_t room);
 
+/* One step of a walk over the blocks of a strip: finds the first start at or after `at.from`, as tape_read_block does, and tries the block
+ * there, as a header or, with a length, as a data block of so many bytes. The walk goes on at `next`: at the end of an accepted block; one
+ * pulse past the start of a refused one. What is tried there is a header, or, after an accepted header of type 1 or 3 whose end is 1 to 8,192
+ * above its start, the data block of so many bytes. It ends where no start is found.
+ *
+ * Refuses, in this order: 1 for a length over 8,192, and 3, with `found` 0, `next` as it was lent, and all else 0; 4, 5, 6, 7 as
+ * tape_read_block does, with `found` 1 and block 1 where a data block was tried. The three counts add up to n + 1, also after 5, 6 and 7; after
+ * 4 they are 0. Countdown places do not count. Any place and any length may be lent. */
+tape_walked tape_walk_block(const uint32_t *pulses, size_t count, tape_walk at);
+
+/* Adds a strip to totals: one strip, its pulses of each class, and the places of all blocks of its walk from {0, 0} on. Refuses, with 1 and the
+ * totals as they were lent, where these count 1,000 strips or more, where one of them is above 1,000,000,000,000, and where there are over
+ * 1,048,576 pulses. */
+tape_report tape_report_strip(tape_wear totals, const uint32_t *pulses, size_t count);
+
 /* Bytes of stack that each call needs, with its return address: read off the machine code of this archive and rounded up to a multiple of
- * 16. What memcpy and memset of the C library need is not counted. */
+ * 16. What memcpy and memset of the C library need is not counted, nor the 64 bytes of the totals that the caller passes. */
 enum {
     TAPE_STACK_WRITE_BLOCK = 320,
-    TAPE_STACK_READ_BLOCK = 384,
+    TAPE_STACK_READ_BLOCK = 448,
     TAPE_STACK_WRITE_FILE = 752,
-    TAPE_STACK_READ_FILE = 704,
+    TAPE_STACK_READ_FILE = 768,
     TAPE_STACK_PACK_HEADER = 16,
     TAPE_STACK_UNPACK_HEADER = 16,
     TAPE_STACK_SHOWN_NAME = 16,
     TAPE_STACK_WRITE_TAP = 64,
-    TAPE_STACK_READ_TAP = 96
+    TAPE_STACK_READ_TAP = 96,
+    TAPE_STACK_WALK_BLOCK = 496,
+    TAPE_STACK_REPORT_STRIP = 640
 };
 
 #ifdef __cplusplus

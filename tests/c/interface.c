@@ -16,7 +16,7 @@ static uint32_t pulses[PULSES], block[PULSES];
 static size_t count, block_count, tap_len;
 
 /* Layout and numbers, as the library has them. */
-_Static_assert(TAPE_VERSION == 2, "this test is of version 2");
+_Static_assert(TAPE_VERSION == 3, "this test is of version 3");
 #define AT(type, field, offset) _Static_assert(offsetof(type, field) == (offset), #type "." #field)
 #define SIZE(type, size) _Static_assert(sizeof(type) == (size), #type)
 SIZE(tape_refusal, 16); AT(tape_refusal, number, 0); AT(tape_refusal, block, 4); AT(tape_refusal, place, 8);
@@ -25,6 +25,12 @@ SIZE(tape_block, 40); AT(tape_block, refusal, 0); AT(tape_block, n, 16); AT(tape
 SIZE(tape_file, 40); AT(tape_file, refusal, 0); AT(tape_file, type, 16); AT(tape_file, start, 20); AT(tape_file, end, 24); AT(tape_file, stop, 32);
 SIZE(tape_tap, 32); AT(tape_tap, refusal, 0); AT(tape_tap, version, 16); AT(tape_tap, count, 24);
 SIZE(tape_span, 32); AT(tape_span, refusal, 0); AT(tape_span, offset, 16); AT(tape_span, length, 24);
+SIZE(tape_wear, 64); AT(tape_wear, strips, 0); AT(tape_wear, shorts, 8); AT(tape_wear, mediums, 16); AT(tape_wear, longs, 24);
+AT(tape_wear, noises, 32); AT(tape_wear, one, 40); AT(tape_wear, two, 48); AT(tape_wear, lost, 56);
+SIZE(tape_report, 80); AT(tape_report, refusal, 0); AT(tape_report, totals, 16);
+SIZE(tape_walk, 16); AT(tape_walk, from, 0); AT(tape_walk, length, 8);
+SIZE(tape_walked, 88); AT(tape_walked, refusal, 0); AT(tape_walked, found, 16); AT(tape_walked, n, 24); AT(tape_walked, start, 32);
+AT(tape_walked, end, 40); AT(tape_walked, one, 48); AT(tape_walked, two, 56); AT(tape_walked, lost, 64); AT(tape_walked, next, 72);
 
 /* Each refusal that a small input gives, by its name. */
 static void refusals(void)
@@ -48,6 +54,29 @@ static void refusals(void)
     EXPECT(tape_write_tap(&over, 1, 1, tap, sizeof tap).refusal.number == TAPE_NO_TAP_FORM);
     EXPECT(tape_write_tap(&odd, 1, 2, tap, sizeof tap).refusal.number == TAPE_WRONG_TAP_VERSION);
     EXPECT(tape_write_tap(&odd, TAPE_MOST_DURATIONS + 1, 1, tap, 0).refusal.number == TAPE_WRONG_SIZE);
+    EXPECT(tape_walk_block(&odd, 1, (tape_walk){0, N + 1}).refusal.number == TAPE_WRONG_SIZE);
+}
+
+/* A step without a block: where the walk stands is as it was lent, and all else is 0. */
+static void no_block(tape_walk at, uint32_t number)
+{
+    tape_walked none = {{number, 0, 0}, 0, 0, 0, 0, 0, 0, 0, at};
+    tape_walked w = tape_walk_block(NULL, 0, at);
+    EXPECT(w.refusal.number == none.refusal.number && w.refusal.block == 0 && w.refusal.place == 0 && w.found == 0);
+    EXPECT(memcmp(&w.n, &none.n, sizeof w - offsetof(tape_walked, n)) == 0);
+}
+
+/* Totals that are full stay as they are; the last that are not are added to. */
+static void full_totals(void)
+{
+    tape_wear last = {999, 1000000000000, 1, 2, 3, 4, 5, 6}, strips = {1000, 0, 0, 0, 0, 0, 0, 0}, high = {0, 0, 0, 0, 0, 0, 0, 1000000000001};
+    tape_report r = tape_report_strip(strips, NULL, 0);
+    EXPECT(r.refusal.number == TAPE_WRONG_SIZE && memcmp(&r.totals, &strips, sizeof strips) == 0);
+    r = tape_report_strip(high, NULL, 0);
+    EXPECT(r.refusal.number == TAPE_WRONG_SIZE && memcmp(&r.totals, &high, sizeof high) == 0);
+    r = tape_report_strip(last, NULL, 0);
+    last.strips++;
+    EXPECT(r.refusal.number == TAPE_ACCEPTED && memcmp(&r.totals, &last, sizeof last) == 0);
 }
 
 /* A null pointer with length 0 is empty, where it is refused and where it is not. */
@@ -129,6 +158,31 @@ static void read_tap(void)
     EXPECT(t.refusal.number == TAPE_ACCEPTED && t.version == 1 && t.count == count);
 }
 
+/* The header of the file, then its data block, then no more. */
+static void walk_block(void)
+{
+    static tape_walked h, d;
+    h = tape_walk_block(pulses, count, (tape_walk){0, 0});
+    EXPECT(h.refusal.number == TAPE_ACCEPTED && h.found == 1 && h.n == TAPE_HEADER_BYTES && h.start == LEADER0);
+    EXPECT(h.end == TAPE_BLOCK_PULSES(TAPE_HEADER_BYTES, LEADER0) - 61 && h.one == h.n + 1 && h.two == 0 && h.lost == 0);
+    EXPECT(h.next.from == h.end && h.next.length == N);
+    d = tape_walk_block(pulses, count, h.next);
+    EXPECT(d.refusal.number == TAPE_ACCEPTED && d.found == 1 && d.n == N && d.start == h.end + 61 + LEADER1 && d.end == count - 61);
+    EXPECT(d.one == N + 1 && d.two == 0 && d.lost == 0 && d.next.from == d.end && d.next.length == 0);
+    h = tape_walk_block(pulses, count, d.next);
+    EXPECT(h.refusal.number == TAPE_NO_START && h.found == 0);
+}
+
+static void report_strip(void)
+{
+    static tape_wear none;
+    static tape_report r;
+    r = tape_report_strip(none, pulses, count);
+    EXPECT(r.refusal.number == TAPE_ACCEPTED && r.totals.strips == 1 && r.totals.noises == 0);
+    EXPECT(r.totals.shorts + r.totals.mediums + r.totals.longs == count && r.totals.longs == 2 * (TAPE_HEADER_BYTES + N + 20) + 4);
+    EXPECT(r.totals.one == TAPE_HEADER_BYTES + N + 2 && r.totals.two == 0 && r.totals.lost == 0);
+}
+
 /* The long form counts cycles. */
 static void long_form(void)
 {
@@ -164,6 +218,9 @@ static void spoilt(void)
     b = tape_read_block(block, block_count, 0, N, data, sizeof data);
     EXPECT(b.refusal.number == TAPE_WRONG_COUNTDOWN && b.refusal.place == 3);
     EXPECT(tape_read_block(block, block_count, LEADER1, N, data, sizeof data).refusal.number == TAPE_NO_START);
+    tape_walked w = tape_walk_block(block, block_count, (tape_walk){0, N});
+    EXPECT(w.refusal.number == TAPE_WRONG_COUNTDOWN && w.refusal.block == 1 && w.refusal.place == 3 && w.found == 1 && w.end == 0);
+    EXPECT(w.n == N && w.start == LEADER1 && w.one == N && w.two == 0 && w.lost == 1 && w.next.from == LEADER1 + 1 && w.next.length == 0);
 }
 
 /* Runs a call on a painted stack, and answers how far down the paint is gone. */
@@ -210,6 +267,12 @@ int main(void)
     on_painted_stack("tape_shown_name", shown_name, TAPE_STACK_SHOWN_NAME);
     on_painted_stack("tape_write_tap", write_tap, TAPE_STACK_WRITE_TAP);
     on_painted_stack("tape_read_tap", read_tap, TAPE_STACK_READ_TAP);
+    on_painted_stack("tape_walk_block", walk_block, TAPE_STACK_WALK_BLOCK);
+    on_painted_stack("tape_report_strip", report_strip, TAPE_STACK_REPORT_STRIP + sizeof(tape_wear));
+    no_block((tape_walk){0, 0}, TAPE_NO_START);
+    no_block((tape_walk){UINT64_MAX, N}, TAPE_NO_START);
+    no_block((tape_walk){7, UINT64_MAX}, TAPE_WRONG_SIZE);
+    full_totals();
     long_form();
     spoilt();
     puts("the C interface is as its header says");

@@ -4,11 +4,17 @@
 use std::collections::BTreeMap;
 use std::env;
 use std::fmt::Debug;
+use std::iter;
 
 use crate::random::Random;
 use crate::readers::Tally;
+use crate::reference::block::{copy_len, Places, MAX_PAYLOAD, TRAILER};
 use crate::reference::byte::read_byte;
-use crate::reference::{BlockRead, FileRead, Header, Refusal, Span, TapRead};
+use crate::reference::header::HEADER;
+use crate::reference::pulse::Class;
+use crate::reference::refusal::{CUT, NO_START};
+use crate::reference::{wear, BlockRead, FileRead, Header, Refusal, Span, TapRead};
+use crate::reference::{Walk, Walked, Wear};
 use crate::thresholds::Thresholds;
 use crate::{library, readers, reference};
 
@@ -71,6 +77,8 @@ pub struct Run {
     index: u64,
     scene: &'static str,
     seen: BTreeMap<Outcome, u64>,
+    /// How often input of some kind was met.
+    met: BTreeMap<&'static str, u64>,
     /// Durations that came back from a TAP file of version 1, by their remainder
     /// modulo 8: first those below 2,048 cycles, then the others.
     remainders: [[u64; 8]; 2],
@@ -90,6 +98,7 @@ impl Run {
             index: 0,
             scene: "",
             seen: BTreeMap::new(),
+            met: BTreeMap::new(),
             remainders: [[0; 8]; 2],
         }
     }
@@ -136,6 +145,26 @@ impl Run {
                     "{size} durations of remainder {remainder} came back too seldom"
                 );
             }
+        }
+    }
+
+    /// Counts input of this kind, where it is met.
+    pub fn meet(&mut self, kind: &'static str, is_met: bool) {
+        *self.met.entry(kind).or_default() += u64::from(is_met);
+    }
+
+    /// Prints how often each kind of input was met, and demands that those
+    /// listed here were a fair number of times.
+    pub fn demand(&self, kinds: &[&'static str]) {
+        for (kind, times) in &self.met {
+            println!("{}: {kind} {times}", self.area);
+        }
+        for kind in kinds {
+            let times = self.met.get(kind).copied();
+            assert!(
+                times.unwrap_or(0) >= self.fair(),
+                "{kind} was met too seldom"
+            );
         }
     }
 
@@ -189,24 +218,20 @@ impl Run {
         buffers: &[Option<String>],
         arguments: impl Fn() -> String,
     ) {
-        self.made += 1;
-        let outcome = match library {
-            Ok(_) => (call, 0, 0),
-            Err(refusal) => (call, refusal.number, refusal.block),
-        };
-        *self.seen.entry(outcome).or_default() += 1;
-        if library != reference {
-            panic!(
-                "{call} with {}: the library answers {library:?}, the reference {reference:?}",
-                arguments()
-            );
-        }
+        self.count(call, library.as_ref().err());
+        demand_equal(call, library, reference, &arguments);
         if let Some(difference) = buffers.iter().flatten().next() {
             panic!(
                 "{call} with {}: after {library:?} the buffers differ: {difference}",
                 arguments()
             );
         }
+    }
+
+    fn count(&mut self, call: &'static str, refusal: Option<&Refusal>) {
+        self.made += 1;
+        let (number, block) = refusal.map_or((0, 0), |refusal| (refusal.number, refusal.block));
+        *self.seen.entry((call, number, block)).or_default() += 1;
     }
 
     pub fn write_block(
@@ -424,6 +449,190 @@ impl Run {
             || format!("file {}, room {room}", brief(file)),
         );
         answer.map(|read| (read, ours.part().to_vec()))
+    }
+
+    /// One step of a walk. It is counted by what was tried and, for an accepted
+    /// header, by how the walk goes on.
+    pub fn walk_block(&mut self, pulses: &[u32], at: Walk) -> Result<Walked, Refusal> {
+        let answer = library::walk_block(pulses, at);
+        let expected = reference::walk_block(pulses, at);
+        let call = step_name(at, &answer);
+        let refusal = match &answer {
+            Ok(walked) => walked.end.as_ref().err(),
+            Err(refusal) => Some(refusal),
+        };
+        self.count(call, refusal);
+        demand_equal(call, &answer, &expected, || {
+            format!("pulses {}, {at:?}", brief(pulses))
+        });
+        answer
+    }
+
+    /// A walk from its beginning to its end, and the report of the strip.
+    pub fn walk(&mut self, pulses: &[u32]) -> Vec<Walked> {
+        let blocks = self.walk_on(pulses, Walk::default());
+        let totals = self
+            .report_strip(Wear::default(), pulses)
+            .expect("a strip that is not too long");
+        let count = |class| {
+            pulses
+                .iter()
+                .filter(|&&pulse| Class::of(pulse) == class)
+                .count()
+        };
+        let sum = |places: fn(&Walked) -> usize| blocks.iter().map(places).sum::<usize>();
+        let sums = [
+            1,
+            count(Class::Short),
+            count(Class::Medium),
+            count(Class::Long),
+            count(Class::Noise),
+            sum(|walked| walked.places.one),
+            sum(|walked| walked.places.two),
+            sum(|walked| walked.places.lost),
+        ];
+        assert_eq!(
+            totals.numbers(),
+            sums.map(|sum| sum as u64),
+            "the report is not the walk"
+        );
+        assert_eq!(sums[1..5].iter().sum::<usize>(), pulses.len());
+        blocks
+    }
+
+    /// A walk from any place to its end: a step wherever the reference's walk
+    /// stands, and then the library's walk by itself.
+    pub fn walk_on(&mut self, pulses: &[u32], from: Walk) -> Vec<Walked> {
+        let blocks: Vec<Walked> = wear::walk(pulses, from).collect();
+        let mut at = from;
+        for (i, walked) in blocks.iter().enumerate() {
+            check_step(pulses, at, walked);
+            check_file(pulses, at, walked, blocks.get(i + 1));
+            let _ = self.walk_block(pulses, at);
+            at = walked.next;
+        }
+        let _ = self.walk_block(pulses, at);
+        self.meet_ways_on(&blocks);
+        let mut at = from;
+        let by_itself = iter::from_fn(|| {
+            let walked = library::walk_block(pulses, at).ok()?;
+            at = walked.next;
+            Some(walked)
+        });
+        assert!(
+            by_itself.take(blocks.len() + 1).eq(blocks.iter().copied()),
+            "the library's walk is another one"
+        );
+        blocks
+    }
+
+    /// Counts what is telling in a walk.
+    fn meet_ways_on(&mut self, blocks: &[Walked]) {
+        for walked in blocks {
+            let refused = walked.end.err().map_or(0, |refusal| refusal.number);
+            let places = walked.places;
+            self.meet("places from copy two", places.two > 0);
+            self.meet("several places lost", places.lost > 1);
+            self.meet(
+                "places of all kinds",
+                places.one * places.two * places.lost > 0,
+            );
+            self.meet(
+                "places lost after refusal 5",
+                refused == 5 && places.lost > 0,
+            );
+            self.meet(
+                "places from copy two after refusal 7",
+                refused == 7 && places.two > 0,
+            );
+        }
+        for pair in blocks.windows(2) {
+            let [block, next] = [pair[0], pair[1]];
+            let whole = block.start + 2 * copy_len(block.n) + TRAILER;
+            let refused = block.end.is_err();
+            let inside = refused && next.start < whole;
+            self.meet("a start inside a refused block", inside);
+            self.meet(
+                "an accepted block inside a refused one",
+                inside && next.end.is_ok(),
+            );
+            self.meet(
+                "an accepted block after a refused one",
+                refused && next.end.is_ok(),
+            );
+        }
+    }
+
+    pub fn report_strip(&mut self, totals: Wear, pulses: &[u32]) -> Result<Wear, Refusal> {
+        let answer = library::report_strip(totals, pulses);
+        let expected = reference::report_strip(totals, pulses);
+        self.settle("report_strip", &answer, &expected, &[], || {
+            format!("{totals:?}, pulses {}", brief(pulses))
+        });
+        answer
+    }
+}
+
+/// The name of a step, by what was tried and what came of it.
+fn step_name(at: Walk, answer: &Result<Walked, Refusal>) -> &'static str {
+    let is_accepted = answer.is_ok_and(|walked| walked.end.is_ok());
+    let goes_on_with_data = answer.is_ok_and(|walked| walked.next.length > 0);
+    match at.length {
+        0 if goes_on_with_data => "walk_block, a program's header",
+        0 if is_accepted => "walk_block, another header",
+        0 => "walk_block, a header",
+        HEADER if is_accepted => "walk_block, 192 bytes of data",
+        1..=MAX_PAYLOAD => "walk_block, data",
+        _ => "walk_block, too many bytes",
+    }
+}
+
+/// Checks what is true of every step of the reference, and that it answers what
+/// the block reader does.
+fn check_step(pulses: &[u32], at: Walk, walked: &Walked) {
+    let n = if at.length == 0 { HEADER } else { at.length };
+    let block = u32::from(at.length > 0);
+    let read = reference::read_block(pulses, at.from, n, &mut [0; MAX_PAYLOAD]);
+    let told = walked.end.map(|end| BlockRead {
+        n: walked.n,
+        start: walked.start,
+        end,
+    });
+    assert_eq!(told, read.map_err(|refusal| Refusal { block, ..refusal }));
+    let is_cut = told.is_err_and(|refusal| refusal.number == CUT);
+    let Places { one, two, lost } = walked.places;
+    assert_eq!(one + two + lost, if is_cut { 0 } else { n + 1 });
+    assert!(lost == 0 || told.is_err());
+    assert!(at.from < walked.start && walked.start < walked.next.from);
+}
+
+/// Checks that a program's header and the step after it answer what the file
+/// reader does.
+fn check_file(pulses: &[u32], at: Walk, head: &Walked, data: Option<&Walked>) {
+    if head.next.length == 0 {
+        return;
+    }
+    let no_start = Err(Refusal {
+        number: NO_START,
+        block: 1,
+        place: 0,
+    });
+    let read = reference::read_file(pulses, at.from, &mut [0; HEADER], &mut [0; MAX_PAYLOAD]);
+    let told = data.map_or(no_start, |data| data.end);
+    assert_eq!(told, read.map(|read| read.stop));
+}
+
+fn demand_equal<T: PartialEq + Debug>(
+    call: &str,
+    library: &T,
+    reference: &T,
+    arguments: impl Fn() -> String,
+) {
+    if library != reference {
+        panic!(
+            "{call} with {}: the library answers {library:?}, the reference {reference:?}",
+            arguments()
+        );
     }
 }
 

@@ -1,7 +1,8 @@
 //! The library under test, by the calls of its archive, with the signatures
 //! and the answers of the reference.
 
-use crate::reference::{BlockRead, FileRead, Header, Refusal, Span, TapRead};
+use crate::reference::block::Places;
+use crate::reference::{BlockRead, FileRead, Header, Refusal, Span, TapRead, Walk, Walked, Wear};
 
 #[repr(C)]
 struct TapeRefusal {
@@ -45,6 +46,43 @@ struct TapeSpan {
     refusal: TapeRefusal,
     offset: u64,
     length: u64,
+}
+
+#[repr(C)]
+struct TapeWear {
+    strips: u64,
+    shorts: u64,
+    mediums: u64,
+    longs: u64,
+    noises: u64,
+    one: u64,
+    two: u64,
+    lost: u64,
+}
+
+#[repr(C)]
+struct TapeReport {
+    refusal: TapeRefusal,
+    totals: TapeWear,
+}
+
+#[repr(C)]
+struct TapeWalk {
+    from: u64,
+    length: u64,
+}
+
+#[repr(C)]
+struct TapeWalked {
+    refusal: TapeRefusal,
+    found: u32,
+    n: u64,
+    start: u64,
+    end: u64,
+    one: u64,
+    two: u64,
+    lost: u64,
+    next: TapeWalk,
 }
 
 extern "C" {
@@ -112,6 +150,10 @@ extern "C" {
     ) -> TapePut;
 
     fn tape_read_tap(file: *const u8, len: usize, out: *mut u32, room: usize) -> TapeTap;
+
+    fn tape_report_strip(totals: TapeWear, pulses: *const u32, count: usize) -> TapeReport;
+
+    fn tape_walk_block(pulses: *const u32, count: usize, at: TapeWalk) -> TapeWalked;
 }
 
 impl TapeRefusal {
@@ -192,6 +234,85 @@ impl TapeSpan {
         self.refusal.accepted(&numbers)?;
         let [offset, length] = numbers.map(size);
         Ok(Span { offset, length })
+    }
+}
+
+impl TapeWear {
+    fn new(totals: Wear) -> Self {
+        let [strips, shorts, mediums, longs, noises, one, two, lost] = totals.numbers();
+        Self {
+            strips,
+            shorts,
+            mediums,
+            longs,
+            noises,
+            one,
+            two,
+            lost,
+        }
+    }
+
+    fn totals(self) -> Wear {
+        Wear {
+            strips: self.strips,
+            shorts: self.shorts,
+            mediums: self.mediums,
+            longs: self.longs,
+            noises: self.noises,
+            one: self.one,
+            two: self.two,
+            lost: self.lost,
+        }
+    }
+}
+
+impl TapeReport {
+    /// A refusal must come with the totals that were lent.
+    fn answer(self, lent: Wear) -> Result<Wear, Refusal> {
+        let totals = self.totals.totals();
+        self.refusal
+            .accepted(&[])
+            .inspect_err(|_| assert_eq!(totals, lent, "a refusal changes the totals"))?;
+        Ok(totals)
+    }
+}
+
+impl TapeWalk {
+    fn new(at: Walk) -> Self {
+        Self {
+            from: at.from as u64,
+            length: at.length as u64,
+        }
+    }
+
+    fn walk(self) -> Walk {
+        Walk {
+            from: size(self.from),
+            length: size(self.length),
+        }
+    }
+}
+
+impl TapeWalked {
+    /// Where no block was found, the walk must stay where it was lent.
+    fn answer(self, lent: Walk) -> Result<Walked, Refusal> {
+        let numbers = [self.n, self.start, self.end, self.one, self.two, self.lost];
+        let next = self.next.walk();
+        if self.found == 0 {
+            assert_eq!(next, lent, "a walk goes on with no block found");
+            self.refusal.accepted(&numbers)?;
+            panic!("no block is found, and no refusal tells why");
+        }
+        assert_eq!(self.found, 1, "a block is found or not");
+        let refused = self.refusal.accepted(&[self.end]);
+        let [n, start, end, one, two, lost] = numbers.map(size);
+        Ok(Walked {
+            n,
+            start,
+            end: refused.map(|()| end),
+            places: Places { one, two, lost },
+            next,
+        })
     }
 }
 
@@ -324,4 +445,16 @@ pub fn read_tap(file: &[u8], out: &mut [u32]) -> Result<TapRead, Refusal> {
     // SAFETY: each pointer comes with the length of its slice.
     let tap = unsafe { tape_read_tap(file.as_ptr(), file.len(), out.as_mut_ptr(), out.len()) };
     tap.answer()
+}
+
+pub fn report_strip(totals: Wear, pulses: &[u32]) -> Result<Wear, Refusal> {
+    // SAFETY: the pointer comes with the length of its slice.
+    let report = unsafe { tape_report_strip(TapeWear::new(totals), pulses.as_ptr(), pulses.len()) };
+    report.answer(totals)
+}
+
+pub fn walk_block(pulses: &[u32], at: Walk) -> Result<Walked, Refusal> {
+    // SAFETY: the pointer comes with the length of its slice.
+    let walked = unsafe { tape_walk_block(pulses.as_ptr(), pulses.len(), TapeWalk::new(at)) };
+    walked.answer(at)
 }

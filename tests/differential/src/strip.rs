@@ -3,7 +3,7 @@
 use std::ops::Range;
 
 use crate::random::Random;
-use crate::reference::block::{block_len, copy_len, COUNTDOWNS, TRAILER};
+use crate::reference::block::{block_len, copy_len, COUNTDOWNS, SHORTS_BEFORE, SYNC, TRAILER};
 use crate::reference::byte::{write_byte, PULSES};
 use crate::reference::header::HEADER;
 use crate::reference::pulse::{Class, LONG, SHORT};
@@ -72,6 +72,24 @@ pub fn push_shorts(pulses: &mut Vec<u32>, count: usize) {
     pulses.resize(pulses.len() + count, SHORT);
 }
 
+/// Puts pulses over those of a strip from a place on. The strip grows where
+/// they go past its end.
+pub fn overlay(pulses: &mut Vec<u32>, at: usize, over: &[u32]) {
+    let end = at + over.len();
+    if pulses.len() < end {
+        pulses.resize(end, 0);
+    }
+    pulses[at..end].copy_from_slice(over);
+}
+
+/// Puts what makes a block's start over a strip: 16 short pulses and a $89.
+pub fn plant_start(pulses: &mut Vec<u32>, at: usize) {
+    let mut start = Vec::new();
+    push_shorts(&mut start, SHORTS_BEFORE);
+    push_byte(&mut start, SYNC);
+    overlay(pulses, at, &start);
+}
+
 /// What a program file is written from.
 #[derive(Clone, Debug)]
 pub struct Program {
@@ -85,6 +103,11 @@ impl Program {
     /// A program file that can be written.
     pub fn random(random: &mut Random) -> Self {
         let bytes = random.payload();
+        Self::of(random, bytes)
+    }
+
+    /// A program file of these bytes, 1 to 8,192 of them.
+    pub fn of(random: &mut Random, bytes: Vec<u8>) -> Self {
         let last = usize::from(u16::MAX) - bytes.len();
         let start = match random.below(8) {
             0 => 0,
@@ -155,6 +178,36 @@ pub fn hit(random: &mut Random, frame: &mut [u32], hits: usize) {
             left -= 1;
         }
     }
+}
+
+/// Where the value at a place of payload or checksum is taken from.
+#[derive(Clone, Copy, Debug, PartialEq, Eq)]
+pub enum Source {
+    One,
+    Two,
+    Lost,
+}
+
+/// Makes bytes of a sound block bad, so that each place of payload and checksum
+/// has this source.
+pub fn wear_down(random: &mut Random, pulses: &mut [u32], block: Placed, sources: &[Source]) {
+    for (i, source) in sources.iter().enumerate() {
+        let bad_copies: &[usize] = match source {
+            Source::One if random.once_in(4) => &[1],
+            Source::One => &[],
+            Source::Two => &[0],
+            Source::Lost => &[0, 1],
+        };
+        for &copy in bad_copies {
+            let hits = random.within(1..=3);
+            hit(random, &mut pulses[block.frame(copy, COUNTDOWN + i)], hits);
+        }
+    }
+}
+
+/// Turns two bits of a byte round, so that it stays good with another value.
+pub fn turn_byte(random: &mut Random, pulses: &mut [u32], block: Placed, copy: usize, i: usize) {
+    turn(random, frame_of(pulses, &block, copy, COUNTDOWN + i));
 }
 
 /// So many in a hundred byte places of a copy, never the first.

@@ -32,6 +32,22 @@ pub struct BlockRead {
     pub end: usize,
 }
 
+/// How many places of a block's payload and checksum were taken from copy one,
+/// from copy two, and lost.
+#[derive(Clone, Copy, Debug, Default, PartialEq, Eq)]
+pub struct Places {
+    pub one: usize,
+    pub two: usize,
+    pub lost: usize,
+}
+
+/// The bytes of a block's two copies, and the place after copy two.
+struct Copies<'a> {
+    countdowns: [&'a [Frame]; 2],
+    values: [&'a [Frame]; 2],
+    end: usize,
+}
+
 /// Pulses of one copy of a block of `n` payload bytes.
 pub const fn copy_len(n: usize) -> usize {
     PULSES * (n + COUNTDOWNS[0].len() + 1)
@@ -116,6 +132,36 @@ pub(super) fn decode_block(
 ) -> Result<BlockRead, Refusal> {
     let n = payload.len();
     let start = find_start(pulses, from).ok_or(Refusal::new(refusal::NO_START))?;
+    let copies = copies_at(pulses, start, n)?;
+    check_countdowns(copies.countdowns)?;
+    decode_values(copies.values, payload)?;
+    let end = copies.end;
+    Ok(BlockRead { n, start, end })
+}
+
+/// Tries the block of `payload.len()` bytes at this start. The places are
+/// counted to the block's end also where it is refused, but not where the
+/// strip ends before it. After a refusal the payload holds nothing of use.
+pub(super) fn look_at_block(
+    pulses: &[u32],
+    start: usize,
+    payload: &mut [u8],
+) -> (Result<BlockRead, Refusal>, Places) {
+    let n = payload.len();
+    let copies = match copies_at(pulses, start, n) {
+        Ok(copies) => copies,
+        Err(refusal) => return (Err(refusal), Places::default()),
+    };
+    let countdowns = check_countdowns(copies.countdowns);
+    let (values, places) = count_values(copies.values, payload);
+    let end = copies.end;
+    let answer = countdowns.and(values);
+    (answer.map(|()| BlockRead { n, start, end }), places)
+}
+
+/// Rule 2: both copies of the block of `n` payload bytes at this start.
+#[inline]
+fn copies_at(pulses: &[u32], start: usize, n: usize) -> Result<Copies<'_>, Refusal> {
     let copy_len = copy_len(n);
     let end = start + 2 * copy_len + TRAILER;
     let block = pulses
@@ -125,14 +171,16 @@ pub(super) fn decode_block(
     let (two, _) = block[copy_len + TRAILER..].as_chunks();
     let (countdown_one, values_one) = one.split_at(COUNTDOWNS[0].len());
     let (countdown_two, values_two) = two.split_at(COUNTDOWNS[1].len());
-    check_countdowns(countdown_one, countdown_two)?;
-    decode_values(values_one, values_two, payload)?;
-    Ok(BlockRead { n, start, end })
+    Ok(Copies {
+        countdowns: [countdown_one, countdown_two],
+        values: [values_one, values_two],
+        end,
+    })
 }
 
 /// Rule 1: the smallest place with sixteen short pulses just before it, all at
 /// or after `from`, and a good $89 from it on.
-fn find_start(pulses: &[u32], from: usize) -> Option<usize> {
+pub(super) fn find_start(pulses: &[u32], from: usize) -> Option<usize> {
     let strip = pulses.get(from..)?;
     let mut shorts = 0;
     for (i, &pulse) in strip.iter().enumerate() {
@@ -153,7 +201,7 @@ fn is_sync(strip: &[u32]) -> bool {
 }
 
 /// Rule 3: at each countdown place one copy holds its own expected value.
-fn check_countdowns(one: &[Frame], two: &[Frame]) -> Result<(), Refusal> {
+fn check_countdowns([one, two]: [&[Frame]; 2]) -> Result<(), Refusal> {
     let [expected_one, expected_two] = COUNTDOWNS;
     for i in 0..expected_one.len() {
         if read_byte(&one[i]) != Some(expected_one[i])
@@ -167,7 +215,7 @@ fn check_countdowns(one: &[Frame], two: &[Frame]) -> Result<(), Refusal> {
 
 /// Rules 4 and 5: each value from copy one, else from copy two, and the last
 /// one the XOR of all before it.
-fn decode_values(one: &[Frame], two: &[Frame], payload: &mut [u8]) -> Result<(), Refusal> {
+fn decode_values([one, two]: [&[Frame]; 2], payload: &mut [u8]) -> Result<(), Refusal> {
     let n = payload.len();
     let value_at = |i: usize| {
         read_byte(&one[i])
@@ -184,6 +232,38 @@ fn decode_values(one: &[Frame], two: &[Frame], payload: &mut [u8]) -> Result<(),
     } else {
         Err(Refusal::at(refusal::CHECKSUM, n))
     }
+}
+
+/// Rules 4 and 5 like [`decode_values`], with all places counted.
+fn count_values([one, two]: [&[Frame]; 2], payload: &mut [u8]) -> (Result<(), Refusal>, Places) {
+    let n = payload.len();
+    let mut places = Places::default();
+    let mut first_lost = None;
+    // The XOR of the payload and its checksum, which is 0 where they fit.
+    let mut sum = 0;
+    for (i, (one, two)) in one.iter().zip(two).enumerate() {
+        let value = if let Some(value) = read_byte(one) {
+            places.one += 1;
+            value
+        } else if let Some(value) = read_byte(two) {
+            places.two += 1;
+            value
+        } else {
+            places.lost += 1;
+            first_lost = first_lost.or(Some(i));
+            continue;
+        };
+        sum ^= value;
+        if let Some(byte) = payload.get_mut(i) {
+            *byte = value;
+        }
+    }
+    let answer = match first_lost {
+        Some(place) => Err(Refusal::at(refusal::LOST, place)),
+        None if sum != 0 => Err(Refusal::at(refusal::CHECKSUM, n)),
+        None => Ok(()),
+    };
+    (answer, places)
 }
 
 #[cfg(test)]

@@ -63,7 +63,7 @@ pub fn read_file(
 }
 
 /// The number of bytes of a program file with this header.
-fn check_program(header: Header) -> Result<usize, Refusal> {
+pub(super) fn check_program(header: Header) -> Result<usize, Refusal> {
     if !matches!(header.kind, 1 | 3) {
         return Err(Refusal::new(refusal::TYPE));
     }

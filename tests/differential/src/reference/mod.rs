@@ -1,5 +1,6 @@
 //! An independent implementation of document 01: the tapes that the C64
-//! writes with SAVE, from pulses up to program files, and TAP files.
+//! writes with SAVE, from pulses up to program files, and TAP files; and of
+//! the walk and the report of document 02, Q-1.
 //!
 //! Each call takes the slices and numbers of the library's call of the same
 //! name. A refused call leaves every lent buffer as it was; an accepted one
@@ -11,11 +12,13 @@ pub mod file;
 pub mod header;
 pub mod pulse;
 pub mod tap;
+pub mod wear;
 
 pub use block::{read_block, write_block, BlockRead};
 pub use file::{read_file, write_file, FileRead};
 pub use header::{pack_header, shown_name, unpack_header, Header, Span};
 pub use tap::{read_tap, write_tap, TapRead};
+pub use wear::{report_strip, walk_block, Walk, Walked, Wear};
 
 /// Why a call was refused (document 01, "Refusal numbers").
 #[derive(Clone, Copy, Debug, PartialEq, Eq)]

@@ -11,10 +11,13 @@ use std::hint::black_box;
 
 use differential::random::Random;
 use differential::readers::Tally;
+use differential::reference::block::block_len;
 use differential::reference::byte::read_byte;
 use differential::reference::pulse::{LONG, MEDIUM, SHORT};
-use differential::reference::Header;
-use differential::strip::{drift, places_to_spoil, push_block, push_byte, Placed};
+use differential::reference::{Header, Wear};
+use differential::strip::{
+    drift, places_to_spoil, push_block, push_byte, push_shorts, Placed, Program,
+};
 use differential::thresholds::FIXED;
 use differential::{library, readers, reference};
 
@@ -37,6 +40,7 @@ fn main() {
     let store = env::args().any(|argument| argument == "--store");
     println!("ns a call, the quickest of {ROUNDS} rounds; both built for release, random payload, pulses drifted within their class.");
     println!("Buffers are not cleared between calls. A bad byte of copy one has a noise pulse; the first byte is never bad.");
+    println!("Reports are of three files of 8192 bytes and short pulses to the strip's end, of the same with bad bytes in both copies, and of random pulses.");
     println!(
         "After the ratio: what is left of the stored one, FELL where that is less than {KEPT}."
     );
@@ -56,6 +60,7 @@ fn main() {
         file_read(&mut sheet, &mut random, n);
     }
     taps(&mut sheet, &mut random);
+    reports(&mut sheet, &mut random);
     sheet.finish();
     if store {
         sheet.store();
@@ -73,10 +78,10 @@ fn written(payload: &[u8]) -> (Vec<u32>, Placed) {
     (pulses, placed)
 }
 
-/// Puts a noise pulse into so many in a hundred bytes of copy one.
-fn spoil_copy_one(random: &mut Random, pulses: &mut [u32], block: Placed, percent: usize) {
+/// Puts a noise pulse into so many in a hundred bytes of a copy.
+fn spoil_copy(random: &mut Random, pulses: &mut [u32], block: Placed, copy: usize, percent: usize) {
     for place in places_to_spoil(random, block, percent) {
-        let frame = block.frame(0, place);
+        let frame = block.frame(copy, place);
         pulses[frame.start + random.below(frame.len())] = 1000;
     }
 }
@@ -100,7 +105,7 @@ fn block_read(sheet: &mut Sheet, random: &mut Random, n: usize) {
     let (mut ours, mut theirs) = (vec![0; n], vec![0; n]);
     for (state, percent) in STATES {
         let mut pulses = sound.clone();
-        spoil_copy_one(random, &mut pulses, block, percent);
+        spoil_copy(random, &mut pulses, block, 0, percent);
         sheet.side_by_side(
             &format!("block-read-{state}-{n}"),
             || library::read_block(black_box(&pulses), 0, n, &mut ours),
@@ -231,4 +236,53 @@ fn tap(sheet: &mut Sheet, name: &str, pulses: &[u32]) {
         || reference::read_tap(black_box(file), &mut their_pulses),
     );
     assert_eq!((&our_pulses[..], &their_pulses[..]), (pulses, pulses));
+}
+
+/// Reports of a strip full of files, of the same with bad bytes in both copies,
+/// and of random pulses.
+fn reports(sheet: &mut Sheet, random: &mut Random) {
+    let mut pulses = Vec::new();
+    let blocks = fill_with_files(random, &mut pulses);
+    drift(random, &mut pulses);
+    let places: usize = blocks.iter().map(|block| block.n + 1).sum();
+    let totals = report(sheet, "sound", &pulses);
+    assert_eq!((totals.one, totals.two, totals.lost), (places as u64, 0, 0));
+    for &block in &blocks {
+        for copy in 0..2 {
+            spoil_copy(random, &mut pulses, block, copy, 1);
+        }
+    }
+    let totals = report(sheet, "bad-1%", &pulses);
+    assert!(totals.two > 0 && totals.lost > 0);
+    let pulses: Vec<u32> = (0..MANY).map(|_| random.any_pulse()).collect();
+    report(sheet, "random", &pulses);
+}
+
+/// As many files of the longest program as the strip holds, and short pulses.
+fn fill_with_files(random: &mut Random, pulses: &mut Vec<u32>) -> Vec<Placed> {
+    let mut blocks = Vec::new();
+    while MANY - pulses.len() >= block_len(LEADER, 192) + block_len(LEADER, 8192) {
+        let program = Program {
+            header: Header {
+                kind: 1,
+                start: 0x0801,
+                end: 0x2801,
+            },
+            name: b"GAME".to_vec(),
+            bytes: payload(random, 8192),
+            leaders: [LEADER; 2],
+        };
+        blocks.extend(program.push(pulses));
+    }
+    push_shorts(pulses, MANY - pulses.len());
+    blocks
+}
+
+fn report(sheet: &mut Sheet, name: &str, pulses: &[u32]) -> Wear {
+    sheet.side_by_side(
+        &format!("report-{name}-{MANY}"),
+        || library::report_strip(Wear::default(), black_box(pulses)),
+        || reference::report_strip(Wear::default(), black_box(pulses)),
+    );
+    reference::report_strip(Wear::default(), pulses).expect("the strip is not too long")
 }
