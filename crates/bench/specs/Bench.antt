@@ -24,7 +24,7 @@ thresholdsOf short medium long noise = record { short = cycles short; medium = c
 -- a byte more: a good one counts, and its value is XORed
 abbrev pub counted : BenchTally → ByteRead → BenchTally
 counted t (Good v) = record { good = t .good + 1; xor = bitXor (t .xor) v }
-counted t Bad = t
+counted t (Bad cause) = t
 
 -- the bytes at the places i, i + 1 .. i + count - 1 of twenty pulses each
 unfoldable pub tallyFrom : (cs : List Class) (t : BenchTally) (count i : ℕ) → BenchTally

@@ -1,7 +1,7 @@
 // What `make bench` times beside the calls for C: loops over bytes, with thresholds that only the caller knows and with the fixed ones, and
 // the block reader in one program with them. So byte reading has several callers here.
 use block::BlockAnswer;
-use byte::ByteRead;
+use byte::FrameRead;
 use pulse::Cycles;
 use pulse::Thresholds;
 ghost use mathlib.Core.Path.{_≡_};
@@ -65,7 +65,7 @@ fn tally(t: Thresholds, pulses: &[u32]) -> BenchTally
     let mut i: usize = 0;
     while i < count {
         let at = byte::BYTE_PULSES * i;
-        if let ByteRead::Good(v) = byte::read_frame(t, &pulses[at..at + byte::BYTE_PULSES]) {
+        if let FrameRead::Value(v) = byte::read_frame(t, &pulses[at..at + byte::BYTE_PULSES]) {
             good = good + 1;
             xor = xor ^ v;
         }

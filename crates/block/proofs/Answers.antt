@@ -9,7 +9,7 @@ use mathlib.Core.Option.{Option, none, some}
 use lib.ListN.{length, length-map}
 use lib.Seq.{sets}
 use Rattle.lists.specs.Places.{firstFrom}
-use Rattle.lists.proofs.PlaceLaws.{none-first, length-tabulate}
+use Rattle.lists.proofs.PlaceLaws.{none-first, some-first, length-tabulate}
 use Rattle.lists.proofs.BufferLaws.{put-room}
 use Rattle.refusal.specs.declared.Reason.{Reason}
 use Rattle.refusal.specs.declared.Reason.the-variants.{WrongSize, NoRoom, NoStart, WrongCountdown, LostByte, WrongChecksum}
@@ -34,8 +34,8 @@ use Rattle.block.specs.declared.BlockAnswer.the-variants.{Accepted, Refu
 use Rattle.block.specs.declared.rules.Check.{Check}
 use Rattle.block.specs.declared.rules.Check.the-variants.{Sound, LostAt, WrongSum}
 use Rattle.block.specs.Block.{wrongSize}
-use Rattle.block.specs.Reading.{isMiscounted, isLost, valueAt, valuesAt, sumHolds, BlockRead, extentOf, payloadOf, blockAt, readCopies, readAt, readFrom, readBlock, blockAnswer, BlockPromise}
-use Rattle.block.specs.private.Checks.{checkOf, repairs, Flagged, NoneLost, Checked}
+use Rattle.block.specs.Reading.{isMiscounted, isLost, causesAt, valueAt, valuesAt, sumHolds, BlockRead, extentOf, payloadOf, blockAt, readCopies, readAt, readFrom, readBlock, blockAnswer, BlockPromise}
+use Rattle.block.specs.private.Checks.{checkOf, LostThere, repairs, Flagged, NoneLost, Checked}
 
 refuses : (o : Outcome BlockRead) (out : List ℕ) (reason : Reason) {place : ℕ} {r : BlockAnswer} → o ≡ refuse reason place → r ≡ Refused (refusalAt reason place)
     → BlockPromise o out r out
@@ -57,6 +57,13 @@ check-sound : (o : Option ℕ) (t : Bool) (k : ℕ) {repaired : ℕ} → checkOf
 check-sound none true k e = (refl, refl, cc)
 check-sound none false k e = absurd (let z : _≡_ {A = ℕ} 0 1 = cc in omega arith)
 check-sound (some j) t k e = absurd (let z : _≡_ {A = ℕ} 0 1 = cc in omega arith)
+
+-- a place that is told as lost is one
+pub check-there : (cs : List Class) (one two n : ℕ) (t : Bool) (k : ℕ) {c : Check} → c ≡ checkOf (firstFrom (isLost cs one two) (n + 1) 0) t k → LostThere cs one two n c
+check-there cs one two n t k e i l =
+    let f = some-first (isLost cs one two) (n + 1) 0 i (check-lost (firstFrom (isLost cs one two) (n + 1) 0) t k (sym e ∙ l)) in
+    let high = f .high in
+    (omega arith, f .passes)
 
 -- what is known of sound values
 pub check-passed : {cs : List Class} {one two n repaired : ℕ} {c : Check} {row : List ℕ} → Checked cs one two n c row → c ≡ Sound repaired
@@ -80,13 +87,14 @@ module _ (t : Thresholds) (strip : List ℕ) (p n : ℕ) (out : List ℕ) {two :
     readCopies-wrongCountdown g = let counted = rw second at e in refuses (readCopies cs p n) out WrongCountdown (rw (← counted, g))
 
     module _ (g : f ≡ Nothing) {c : Check} {row : List ℕ} (h : Checked cs p two n c row) where
-      pub readCopies-lostByte : {i : ℕ} {r : BlockAnswer} → c ≡ LostAt i → r ≡ Refused (refusalAt LostByte i) → BlockPromise (readCopies cs p n) out r out
+      pub readCopies-lostByte : {i : ℕ} {r : BlockAnswer} → c ≡ LostAt i → r ≡ Refused (refusalAt (LostByte (causesAt cs p two i)) i) → BlockPromise (readCopies cs p n) out r out
       unfolding readCopies
-      readCopies-lostByte k =
+      readCopies-lostByte {i} k =
           let counted = rw second at e in
           let checked = rw second at h in
-          refuses (readCopies cs p n) out LostByte
-          (rw (← counted, g, check-lost (firstFrom (isLost cs p q) (n + 1) 0) (sumHolds cs p q n) (repairs cs p q n) (sym (checked .says) ∙ k)))
+          rw second
+          (refuses (readCopies cs p n) out (LostByte (causesAt cs p q i))
+          (rw (← counted, g, check-lost (firstFrom (isLost cs p q) (n + 1) 0) (sumHolds cs p q n) (repairs cs p q n) (sym (checked .says) ∙ k))))
 
       pub readCopies-wrongChecksum : {r : BlockAnswer} → c ≡ WrongSum → r ≡ Refused (refusalAt WrongChecksum n) → BlockPromise (readCopies cs p n) out r out
       unfolding readCopies

@@ -1,16 +1,18 @@
 -- The table of the two countdowns.
 use Prim.Native.Nat.{ℕ, zero, suc, _+_, _-_, _*_, _<_}
 use native.Mathlib.Omega.{arith}
-use mathlib.Core.Path.{_≡_, refl, ap, _∙_}
+use mathlib.Core.Path.{_≡_, refl, sym, ap, _∙_}
 use mathlib.Core.Bool.{Bool, true, false}
 use mathlib.Core.List.{List, [], _∷_}
 use lib.ListN.{length, getD}
 use Rattle.lists.specs.Places.{tabulate}
 use Rattle.pulse.specs.declared.Class.{Class}
-use Rattle.byte.specs.Byte.{byteAt, isGood}
+use Rattle.byte.specs.Byte.{valueIn, byteAt}
 use Rattle.block.specs.Reading.{isCounted}
 use Rattle.block.specs.Block.{firstByte, countdown}
+use Rattle.block.specs.private.Checks.{hasValue}
 use Rattle.block.proofs.BlockLaws.{length-countdown, countdown-at}
+use Rattle.block.proofs.SourceLaws.{good-value}
 
 abbrev pub table : List (List ℕ)
 table =
@@ -37,11 +39,12 @@ module _ (copy : ℕ) (h : copy < 2) where
 -- ---- Rule 3
 
 module _ (cs : List Class) (one two i : ℕ) where
-  pub isCounted-one : (v : ℕ) → v ≡ firstByte 0 - i → isGood v (byteAt cs (one + 20 * i)) ≡ true → true ≡ isCounted cs one two i
+  pub isCounted-one : (v : ℕ) → v ≡ firstByte 0 - i → hasValue v (valueIn (byteAt cs (one + 20 * i))) ≡ true → true ≡ isCounted cs one two i
   unfolding isCounted
-  isCounted-one v q e = rw (rw q at e)
+  isCounted-one v q e = rw (rw q at (sym (good-value v (byteAt cs (one + 20 * i))) ∙ e))
 
-  pub isCounted-two : (v w : ℕ) {r : Bool} → v ≡ firstByte 0 - i → w ≡ firstByte 1 - i → isGood v (byteAt cs (one + 20 * i)) ≡ false
-      → r ≡ isGood w (byteAt cs (two + 20 * i)) → r ≡ isCounted cs one two i
+  pub isCounted-two : (v w : ℕ) {r : Bool} → v ≡ firstByte 0 - i → w ≡ firstByte 1 - i → hasValue v (valueIn (byteAt cs (one + 20 * i))) ≡ false
+      → r ≡ hasValue w (valueIn (byteAt cs (two + 20 * i))) → r ≡ isCounted cs one two i
   unfolding isCounted
-  isCounted-two v w q q′ e f = rw (rw q at e, ← q′) f
+  isCounted-two v w q q′ e f =
+      rw (rw q at (sym (good-value v (byteAt cs (one + 20 * i))) ∙ e), ← q′) (f ∙ good-value w (byteAt cs (two + 20 * i)))

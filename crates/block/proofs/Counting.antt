@@ -4,7 +4,7 @@ use native.Mathlib.Numerals.{add-one}
 use native.Mathlib.Decide.{ℕ-discrete}
 use native.Mathlib.Omega.{arith}
 use mathlib.Core.Path.{_≡_, refl, sym, ap, _∙_}
-use mathlib.Core.Bool.{false, cond}
+use mathlib.Core.Bool.{true, false, cond}
 use mathlib.Core.List.{List}
 use mathlib.Core.Option.{some}
 use borrow.Author.Tests.{eq-eqb, ne-eqb}
@@ -14,12 +14,14 @@ use Rattle.lists.specs.Places.{firstFrom, countBelow}
 use Rattle.lists.proofs.CountLaws.{count-most, count-three}
 use Rattle.lists.proofs.LoopLaws.{firstLeft, first-begun, first-passed, first-here, first-over}
 use Rattle.pulse.specs.declared.Class.{Class}
+use Rattle.block.specs.declared.ByCause.{ByCause}
 use Rattle.block.specs.declared.Tally.{Tally}
 use Rattle.block.specs.declared.rules.Check.{Check}
 use Rattle.block.specs.declared.rules.Check.the-variants.{Sound, LostAt, WrongSum}
 use Rattle.block.specs.Reading.{Place, FromOne, FromTwo, Lost, noValue, placeValue, placeAt, isLost, sumHolds}
-use Rattle.block.specs.Looking.{isFromOne, isFromTwo, placesFrom, tallyOf}
+use Rattle.block.specs.Looking.{isFromOne, isFromTwo, placesFrom, eachCause, badBy, tallyOf}
 use Rattle.block.specs.private.Checks.{checkOf, isRepaired, repairs}
+use Rattle.block.proofs.ReadingLaws.{lost-value, lost-other}
 use Rattle.block.proofs.Summing.{Summed, summed-begun, summed-next, summed-holds, summed-fails}
 
 -- ---- Each place is taken from copy one, taken from copy two, or lost
@@ -27,7 +29,7 @@ use Rattle.block.proofs.Summing.{Summed, summed-begun, summed-next, sum
 one-of-three : (p : Place) → cond (isFromOne p) 1 0 + cond (isFromTwo p) 1 0 + cond (noValue p) 1 0 ≡ 1
 one-of-three (FromOne v) = refl
 one-of-three (FromTwo v) = refl
-one-of-three Lost = refl
+one-of-three (Lost causes) = refl
 
 pub places-whole : (cs : List Class) (one two n : ℕ)
     → placesFrom isFromOne cs one two n + placesFrom isFromTwo cs one two n + placesFrom noValue cs one two n ≡ n + 1
@@ -86,17 +88,17 @@ module _ {cs : List Class} {one two n sum repaired lost first i : ℕ} (u : Coun
         → Counting cs one two n sum′ repaired′ lost′ first′ (i + 1)
     counting-two p s r = counting-value (ap noValue p) (ap placeValue p) s (rw p (omega arith))
 
-    pub counting-lost : placeAt cs one two i ≡ Lost → sum′ ≡ sum → repaired′ ≡ repaired → first′ ≡ cond (eqb lost 0) i first → lost′ ≡ lost + 1
+    pub counting-lost : isLost cs one two i ≡ true → sum′ ≡ sum → repaired′ ≡ repaired → first′ ≡ cond (eqb lost 0) i first → lost′ ≡ lost + 1
         → Counting cs one two n sum′ repaired′ lost′ first′ (i + 1)
     unfolding countBelow
     counting-lost p s r f l = record {
       few = omega arith;
-      summed = rw (s, ← (xor-zero-r sum)) (summed-next (u .summed) h (ap placeValue p));
-      twos = rw (add-one, p) (let e = u .twos in omega arith);
+      summed = rw (s, ← (xor-zero-r sum)) (summed-next (u .summed) h (lost-value (placeAt cs one two i) p));
+      twos = rw (add-one, lost-other (placeAt cs one two i) p) (let e = u .twos in omega arith);
       losts = rw (add-one, p) (let e = u .losts in omega arith);
       left = λ z. absurd (omega arith);
       found = λ z. elim (ℕ-discrete lost 0) [
-        | yes e ↦ sym (u .left e) ∙ first-here (isLost cs one two) (n + 1) i (omega arith) (ap noValue p) ∙ ap some (sym (f ∙ rw (eq-eqb lost 0 e)))
+        | yes e ↦ sym (u .left e) ∙ first-here (isLost cs one two) (n + 1) i (omega arith) p ∙ ap some (sym (f ∙ rw (eq-eqb lost 0 e)))
         | no e ↦ u .found e ∙ ap some (sym (f ∙ rw (ne-eqb lost 0 e)))
       ];
     }
@@ -104,23 +106,24 @@ module _ {cs : List Class} {one two n sum repaired lost first i : ℕ} (u : Coun
   -- ---- After the checksum's place
 
   module _ (last : n < i) where
-    all : i ≡ n + 1
-    all = let few = u .few in omega arith
+    pub counted-last : i ≡ n + 1
+    counted-last = let few = u .few in omega arith
 
     counted-two : repaired ≡ placesFrom isFromTwo cs one two n
-    counted-two = u .twos ∙ ap (countBelow (isRepaired cs one two)) all
+    counted-two = u .twos ∙ ap (countBelow (isRepaired cs one two)) counted-last
 
     counted-lost : lost ≡ placesFrom noValue cs one two n
-    counted-lost = u .losts ∙ ap (countBelow (isLost cs one two)) all
+    counted-lost = u .losts ∙ ap (countBelow (isLost cs one two)) counted-last
 
     pub counted-one : placesFrom isFromOne cs one two n + repaired + lost ≡ n + 1
     counted-one = rw (counted-two, counted-lost) (places-whole cs one two n)
 
-    pub counted-tally : _≡_ {A = Tally} (record { one = n + 1 - repaired - lost; two = repaired; lost = lost }) (tallyOf cs one two n)
+    pub counted-tally : {bad : ByCause} → bad ≡ eachCause (λ cause. badBy cause cs one n + badBy cause cs two n)
+        → _≡_ {A = Tally} (record { one = n + 1 - repaired - lost; two = repaired; lost = lost; bad = bad }) (tallyOf cs one two n)
     unfolding tallyOf
-    counted-tally =
+    counted-tally b =
         let g : n + 1 - repaired - lost ≡ placesFrom isFromOne cs one two n = omega (arith, counted-one) in
-        rw (g, ← counted-two, ← counted-lost)
+        rw (g, b, ← counted-two, ← counted-lost)
 
     abbrev want : Check
     want = checkOf (firstFrom (isLost cs one two) (n + 1) 0) (sumHolds cs one two n) (repairs cs one two n)

@@ -20,7 +20,7 @@ use Rattle.pulse.specs.declared.Class.{Class}
 use Rattle.pulse.specs.Pulse.{classes}
 use Rattle.byte.specs.declared.ByteRead.{ByteRead}
 use Rattle.byte.specs.declared.ByteRead.the-variants.{Good, Bad}
-use Rattle.byte.specs.Byte.{byteAt}
+use Rattle.byte.specs.Byte.{byteAt, isBad}
 use Rattle.block.specs.Reading.{placeOf, noValue, placeValue, placeAt, isLost, valueAt, valuesAt}
 use Rattle.block.specs.Looking.{isFromTwo}
 use Rattle.block.specs.private.Values.{bitsAt, bitsOf, HoldsBits}
@@ -41,8 +41,8 @@ module _ (t : Thresholds) (strip : List ℕ) (one two : ℕ) where
   by-copy : (at : ℕ) (a b : ByteRead) → byteAt cs (one + at) ≡ a → byteAt cs (two + at) ≡ b → noValue (placeOf a b) ≡ false
       → bitsAt t strip (cond (isFromTwo (placeOf a b)) two one + at) ≡ placeValue (placeOf a b)
   by-copy at (Good v) b p q h = good-bits t strip (one + at) p
-  by-copy at Bad (Good v) p q h = good-bits t strip (two + at) q
-  by-copy at Bad Bad p q h = absurd (let z : _≡_ {A = ℕ} 0 1 = cc in omega arith)
+  by-copy at (Bad cause) (Good v) p q h = good-bits t strip (two + at) q
+  by-copy at (Bad cause) (Bad other) p q h = absurd (let z : _≡_ {A = ℕ} 0 1 = cc in omega arith)
 
   bits-value : (i : ℕ) {repaired : Bool} → isLost cs one two i ≡ false → isRepaired cs one two i ≡ repaired → bitsOf t strip (cond repaired two one) i ≡ valueAt cs one two i
   unfolding placeAt
@@ -88,13 +88,16 @@ module _ (t : Thresholds) (strip : List ℕ) (one two : ℕ) where
   unfolding placeAt
   value-one i e = rw e
 
-  pub value-two : (i : ℕ) → isLost cs one two i ≡ false → byteAt cs (one + 20 * (9 + i)) ≡ Bad → bitsAt t strip (two + 20 * (9 + i)) ≡ valueAt cs one two i
+  pub value-two : (i : ℕ) → isLost cs one two i ≡ false → isBad (byteAt cs (one + 20 * (9 + i))) ≡ true
+      → bitsAt t strip (two + 20 * (9 + i)) ≡ valueAt cs one two i
   unfolding placeAt
-  value-two i h e = rw e (go (byteAt cs (two + 20 * (9 + i))) refl (rw e at h))
+  value-two i h e = go (byteAt cs (one + 20 * (9 + i))) (byteAt cs (two + 20 * (9 + i))) refl e h
     where
-      go : (b : ByteRead) → byteAt cs (two + 20 * (9 + i)) ≡ b → noValue (placeOf Bad b) ≡ false → bitsAt t strip (two + 20 * (9 + i)) ≡ placeValue (placeOf Bad b)
-      go (Good v) f k = good-bits t strip (two + 20 * (9 + i)) f
-      go Bad f k = absurd (let z : _≡_ {A = ℕ} 0 1 = cc in omega arith)
+      go : (a b : ByteRead) → byteAt cs (two + 20 * (9 + i)) ≡ b → isBad a ≡ true → noValue (placeOf a b) ≡ false
+          → bitsAt t strip (two + 20 * (9 + i)) ≡ placeValue (placeOf a b)
+      go (Good w) b f e k = absurd (let z : _≡_ {A = ℕ} 0 1 = cc in omega arith)
+      go (Bad cause) (Good v) f e k = good-bits t strip (two + 20 * (9 + i)) f
+      go (Bad cause) (Bad other) f e k = absurd (let z : _≡_ {A = ℕ} 0 1 = cc in omega arith)
 
 -- ---- A buffer that holds copy one's bits
 

@@ -88,3 +88,10 @@ raised-down row i j h e =
 pub flagAt-past : (row : List ℕ) (i : ℕ) → length row ≤ i / 8 → flagAt row i ≡ false
 unfolding flagAt
 flagAt-past row i h = rw (List·getD-eq-default row 0 h, zero-div (2 ^ (i % 8)))
+
+-- what is down was down before
+pub raised-keeps : (row : List ℕ) (i j : ℕ) → flagAt (raised row i) j ≡ false → flagAt row j ≡ false
+raised-keeps row i j d = elim (decLt (i / 8) (length row)) [
+  | yes h ↦ raised-down row i j h d .1
+  | no h ↦ rw (raised-past row i (omega arith)) at d
+]

@@ -8,10 +8,11 @@ use mathlib.Core.Option.{Option, none, some}
 use borrow.Author.Tests.{lt-ltb, le-ltb}
 use lib.ListN.{length, length-map}
 use Rattle.lists.specs.Places.{firstFrom}
+use Rattle.refusal.specs.declared.Causes.{Causes}
 use Rattle.refusal.specs.declared.Reason.the-variants.{WrongSize, WrongCountdown, LostByte, WrongChecksum}
 use Rattle.refusal.specs.declared.Refusal.{Refusal}
 use Rattle.refusal.specs.Refusal.{refusalAt}
-use Rattle.refusal.specs.Outcome.{Outcome, accepted, refuse, refusedWith, refuseFirst, mapped}
+use Rattle.refusal.specs.Outcome.{Outcome, accepted, refuse, refusedWith, refuseThere, refuseFirst, mapped}
 use Rattle.refusal.proofs.OutcomeLaws.{cond-accepted}
 use Rattle.pulse.specs.declared.Thresholds.{Thresholds}
 use Rattle.pulse.specs.declared.Class.{Class}
@@ -29,7 +30,7 @@ use Rattle.block.specs.declared.Tally.{Tally}
 use Rattle.block.specs.declared.BlockAnswer.{BlockAnswer}
 use Rattle.block.specs.declared.rules.Check.{Check}
 use Rattle.block.specs.Block.{wrongSize}
-use Rattle.block.specs.Reading.{Place, isMiscounted, isLost, placeAt, valuesAt, sumHolds, BlockRead, extentOf, blockAt, readCopies, blockAnswer}
+use Rattle.block.specs.Reading.{Place, isMiscounted, isLost, placeAt, causesAt, valuesAt, sumHolds, BlockRead, extentOf, blockAt, readCopies, blockAnswer}
 use Rattle.block.specs.Looking.{tallyOf, noTally, Looked, copiesAt, lookAt, lookAnswer, readPlace}
 use Rattle.block.specs.private.Checks.{checkOf, checkAnswer, repairs}
 
@@ -39,18 +40,18 @@ abbrev looked : Outcome Extent → Tally → Looked
 looked outcome tally = record { outcome = outcome; tally = tally }
 
 -- the answer, by the first countdown place that fails and what rules 4 and 5 say of the values
-by-check : (counted lost : Option ℕ) (holds : Bool) (k n : ℕ) (b : BlockRead) → b .extent .n ≡ n
-    → refuseFirst WrongCountdown counted (checkAnswer (checkOf lost holds k) (b .extent))
-    ≡ mapped extentOf (refuseFirst WrongCountdown counted (refuseFirst LostByte lost (cond holds (accepted b) (refuse WrongChecksum n))))
-by-check (some i) lost holds k n b e = refl
-by-check none (some i) holds k n b e = refl
-by-check none none true k n b e = refl
-by-check none none false k n b e = ap (refuse WrongChecksum) e
+by-check : (causes : ℕ → Causes) (counted lost : Option ℕ) (holds : Bool) (k n : ℕ) (b : BlockRead) → b .extent .n ≡ n
+    → refuseFirst WrongCountdown counted (checkAnswer causes (checkOf lost holds k) (b .extent))
+    ≡ mapped extentOf (refuseFirst WrongCountdown counted (refuseThere (λ i. LostByte (causes i)) lost (cond holds (accepted b) (refuse WrongChecksum n))))
+by-check causes (some i) lost holds k n b e = refl
+by-check causes none (some i) holds k n b e = refl
+by-check causes none none true k n b e = refl
+by-check causes none none false k n b e = ap (refuse WrongChecksum) e
 
 pub look-copied : (cs : List Class) (p n two end : ℕ) (f : Found) {c : Check} (a : BlockAnswer) {tally : Tally} → two ≡ copyTwo p n → end ≡ endOf p n
     → foundAt f ≡ firstFrom (isMiscounted cs p two) 9 0
     → c ≡ checkOf (firstFrom (isLost cs p two) (n + 1) 0) (sumHolds cs p two n) (repairs cs p two n)
-    → blockAnswer a ≡ refuseFirst WrongCountdown (foundAt f) (checkAnswer c (record { n = n; start = p; end = end }))
+    → blockAnswer a ≡ refuseFirst WrongCountdown (foundAt f) (checkAnswer (causesAt cs p two) c (record { n = n; start = p; end = end }))
     → tally ≡ tallyOf cs p two n
     → looked (blockAnswer a) tally ≡ looked (mapped extentOf (readCopies cs p n)) (tallyOf cs p two n)
 unfolding readCopies
@@ -58,7 +59,7 @@ look-copied cs p n two end f a second last counted checked answered told =
     let q = copyTwo p n in
     ap₂ looked
     (answered ∙ rw (counted, checked, second, last)
-    (by-check (firstFrom (isMiscounted cs p q) 9 0) (firstFrom (isLost cs p q) (n + 1) 0) (sumHolds cs p q n) (repairs cs p q n) n (blockAt p n (valuesAt cs p q n)) refl))
+    (by-check (causesAt cs p q) (firstFrom (isMiscounted cs p q) 9 0) (firstFrom (isLost cs p q) (n + 1) 0) (sumHolds cs p q n) (repairs cs p q n) n (blockAt p n (valuesAt cs p q n)) refl))
     told
 
 -- ---- Refusals 1 and 4

@@ -1,16 +1,19 @@
--- Looking at a block whose start is known: what rules 2 to 5 answer, and where the value of each place comes from. Nothing is put.
+-- Looking at a block whose start is known: what rules 2 to 5 answer, where the value of each place comes from, and which bytes are bad. Nothing
+-- is put.
 use Prim.Native.Nat.{ℕ, _+_}
 use mathlib.Core.Bool.{Bool, true, false, cond}
-use mathlib.Core.List.{List}
+use mathlib.Core.List.{List, [], _∷_}
 use lib.Dec.{ltb}
-use lib.ListN.{length}
+use lib.ListN.{length, getD}
 use Rattle.lists.specs.Places.{countBelow}
 use Rattle.refusal.specs.declared.Reason.the-variants.{WrongSize}
 use Rattle.refusal.specs.Outcome.{Outcome, refused, accepted, refuse, refusedWith, mapped}
 use Rattle.pulse.specs.declared.Class.{Class}
+use Rattle.byte.specs.Byte.{byteAt, isBadBy}
 use Rattle.start.specs.declared.Copies.{Copies}
-use Rattle.start.specs.Copies.{copyTwo, locateCopies}
+use Rattle.start.specs.Copies.{bytePlace, copyTwo, locateCopies}
 use Rattle.block.specs.declared.Extent.{Extent}
+use Rattle.block.specs.declared.ByCause.{ByCause}
 use Rattle.block.specs.declared.Tally.{Tally}
 use Rattle.block.specs.declared.Look.{Look}
 use Rattle.block.specs.declared.PlaceRead.{PlaceRead}
@@ -25,27 +28,58 @@ use Rattle.block.specs.Reading.{Place, FromOne, FromTwo, Lost, noValue, 
 abbrev pub isFromOne : Place → Bool
 isFromOne (FromOne v) = true
 isFromOne (FromTwo v) = false
-isFromOne Lost = false
+isFromOne (Lost causes) = false
 
 abbrev pub isFromTwo : Place → Bool
 isFromTwo (FromOne v) = false
 isFromTwo (FromTwo v) = true
-isFromTwo Lost = false
+isFromTwo (Lost causes) = false
 
 -- how many of the places 0 to n, the checksum's among them, pass a test
 abbrev pub placesFrom : (Place → Bool) → (cs : List Class) (one two n : ℕ) → ℕ
 placesFrom test cs one two n = countBelow (λ i. test (placeAt cs one two i)) (n + 1)
 
--- taken from copy one, taken from copy two, lost
+-- a number for each cause
+abbrev pub eachCause : (number : (cause : ℕ) → ℕ) → ByCause
+eachCause number = record {
+  marker = number 0;
+  bit0 = number 1;
+  bit1 = number 2;
+  bit2 = number 3;
+  bit3 = number 4;
+  bit4 = number 5;
+  bit5 = number 6;
+  bit6 = number 7;
+  bit7 = number 8;
+  parity = number 9;
+  ones = number 10;
+}
+
+-- the numbers in the order of the causes, and the number for one; for what is no cause it is 0
+abbrev pub causeNumbers : ByCause → List ℕ
+causeNumbers b = b .marker ∷ b .bit0 ∷ b .bit1 ∷ b .bit2 ∷ b .bit3 ∷ b .bit4 ∷ b .bit5 ∷ b .bit6 ∷ b .bit7 ∷ b .parity ∷ b .ones ∷ []
+
+abbrev pub forCause : (cause : ℕ) → ByCause → ℕ
+forCause cause b = getD (causeNumbers b) cause 0
+
+-- how many of the bytes at places 0 to n of a copy are bad for a cause
+abbrev pub badBy : (cause : ℕ) (cs : List Class) (copy n : ℕ) → ℕ
+badBy cause cs copy n = countBelow (λ i. isBadBy cause (byteAt cs (bytePlace copy (9 + i)))) (n + 1)
+
+-- taken from copy one, taken from copy two, lost; and the bad bytes of both copies together, by their causes
 unfoldable pub tallyOf : (cs : List Class) (one two n : ℕ) → Tally
 tallyOf cs one two n = record {
   one = placesFrom isFromOne cs one two n;
   two = placesFrom isFromTwo cs one two n;
   lost = placesFrom noValue cs one two n;
+  bad = eachCause (λ cause. badBy cause cs one n + badBy cause cs two n);
 }
 
+abbrev pub noBad : ByCause
+noBad = eachCause (λ _. 0)
+
 abbrev pub noTally : Tally
-noTally = record { one = 0; two = 0; lost = 0 }
+noTally = record { one = 0; two = 0; lost = 0; bad = noBad }
 
 -- all places that were counted
 abbrev pub counted : Tally → ℕ
@@ -87,7 +121,7 @@ readPlace cs p n i =
 abbrev pub placeRead : PlaceRead → Place
 placeRead (One v) = FromOne v
 placeRead (Two v) = FromTwo v
-placeRead Neither = Lost
+placeRead (Neither causes) = Lost causes
 
 -- what is answered
 abbrev pub placeAnswer : PlaceAnswer → Outcome Place

@@ -5,8 +5,9 @@ use mathlib.Core.List.{List}
 use lib.Dec.{eqb}
 use lib.ListN.{length}
 use Rattle.lists.specs.Places.{firstFrom, tabulate}
+use Rattle.refusal.specs.declared.Causes.{Causes}
 use Rattle.refusal.specs.declared.Reason.the-variants.{WrongSize, WrongCountdown, LostByte, WrongChecksum}
-use Rattle.refusal.specs.Outcome.{Outcome, accepted, refuse, refuseFirst, ifRoom, refusedWith, andThen}
+use Rattle.refusal.specs.Outcome.{Outcome, accepted, refuse, refuseThere, refuseFirst, ifRoom, refusedWith, andThen}
 use Rattle.refusal.specs.Promise.{Answers, Fills, itself}
 use Rattle.pulse.specs.declared.Class.{Class}
 use Rattle.byte.specs.declared.ByteRead.{ByteRead}
@@ -30,28 +31,34 @@ isMiscounted cs one two i = not (isCounted cs one two i)
 
 -- ---- Rule 4: the values
 
--- a place of a block: its value is copy one's, or it is copy two's, or it is lost
+-- a place of a block: its value is copy one's, or it is copy two's, or it is lost, for a cause in each copy
 pub data Place : Type 0 where
   FromOne : (value : ℕ) → Place
   FromTwo : (value : ℕ) → Place
-  Lost : Place
+  Lost : (causes : Causes) → Place
 
 -- by the bytes of both copies: copy one's value where that byte is good, else copy two's
 abbrev pub placeOf : (one two : ByteRead) → Place
 placeOf (Good v) two = FromOne v
-placeOf Bad (Good v) = FromTwo v
-placeOf Bad Bad = Lost
+placeOf (Bad cause) (Good v) = FromTwo v
+placeOf (Bad one) (Bad two) = Lost (record { one = one; two = two })
 
 abbrev pub noValue : Place → Bool
 noValue (FromOne v) = false
 noValue (FromTwo v) = false
-noValue Lost = true
+noValue (Lost causes) = true
 
 -- a lost place stands as 0
 abbrev pub placeValue : Place → ℕ
 placeValue (FromOne v) = v
 placeValue (FromTwo v) = v
-placeValue Lost = 0
+placeValue (Lost causes) = 0
+
+-- the causes of a lost place; of one with a value both stand as 0
+abbrev pub causesIn : Place → Causes
+causesIn (FromOne v) = record { one = 0; two = 0 }
+causesIn (FromTwo v) = record { one = 0; two = 0 }
+causesIn (Lost causes) = causes
 
 -- payload place i, and place n for the checksum
 unfoldable pub placeAt : (cs : List Class) (one two i : ℕ) → Place
@@ -62,6 +69,9 @@ isLost cs one two i = noValue (placeAt cs one two i)
 
 abbrev pub valueAt : (cs : List Class) (one two i : ℕ) → ℕ
 valueAt cs one two i = placeValue (placeAt cs one two i)
+
+abbrev pub causesAt : (cs : List Class) (one two i : ℕ) → Causes
+causesAt cs one two i = causesIn (placeAt cs one two i)
 
 -- the n payload values
 abbrev pub valuesAt : (cs : List Class) (one two n : ℕ) → List ℕ
@@ -89,11 +99,11 @@ payloadOf b = b .payload
 abbrev pub blockAt : (p n : ℕ) (payload : List ℕ) → BlockRead
 blockAt p n payload = record { extent = record { n = n; start = p; end = endOf p n }; payload = payload }
 
--- rules 3 to 5, for the start p: refusals 5, 6, 7 in this order
+-- rules 3 to 5, for the start p: refusals 5, 6, 7 in this order, 6 with the causes of the first lost place
 unfoldable pub readCopies : (cs : List Class) (p n : ℕ) → Outcome BlockRead
 readCopies cs p n =
     refuseFirst WrongCountdown (firstFrom (isMiscounted cs p (copyTwo p n)) 9 0)
-    (refuseFirst LostByte (firstFrom (isLost cs p (copyTwo p n)) (n + 1) 0)
+    (refuseThere (λ i. LostByte (causesAt cs p (copyTwo p n) i)) (firstFrom (isLost cs p (copyTwo p n)) (n + 1) 0)
     (cond (sumHolds cs p (copyTwo p n) n) (accepted (blockAt p n (valuesAt cs p (copyTwo p n) n)))
     (refuse WrongChecksum n)))
 

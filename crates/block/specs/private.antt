@@ -2,3 +2,4 @@
 pub mod Flags
 pub mod Values
 pub mod Checks
+pub mod Causes

@@ -7,8 +7,8 @@ const BYTE_FLAGS: usize = 8;
 // How many places a group has.
 pub const GROUP_PLACES: usize = 16;
 
-// A flag for each group of the largest payload and one for the checksum's.
-pub const ROW_BYTES: usize = super::MOST_BYTES / (GROUP_PLACES * BYTE_FLAGS) + 1;
+// A flag for each group of the largest payload. The checksum's group has none there: its flag is never asked for.
+pub const ROW_BYTES: usize = super::MOST_BYTES / (GROUP_PLACES * BYTE_FLAGS);
 
 // Whether a flag of a row is raised; past the row's end none is.
 pub fn flag(row: &[u8], i: usize) -> bool

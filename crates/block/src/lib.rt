@@ -11,6 +11,7 @@ mod values;
 mod write;
 
 use pulse::Thresholds;
+use refusal::Causes;
 use refusal::Put;
 use refusal::Reason;
 use refusal::Refusal;
@@ -24,7 +25,7 @@ ghost use Rattle.block.specs.Block.{wrongSize, wrongLeader, measureBlock
 ghost use Rattle.start.specs.Start.{findStart, foundAnswer};
 ghost use Rattle.start.specs.Copies.{copiesAnswer};
 ghost use Rattle.block.specs.Reading.{readBlock, BlockPromise};
-ghost use Rattle.block.specs.Looking.{copiesAt, lookAt, lookAnswer, readPlace, placeAnswer};
+ghost use Rattle.block.specs.Looking.{noBad, copiesAt, lookAt, lookAnswer, readPlace, placeAnswer};
 
 // The largest payload.
 pub const MOST_BYTES: usize = 8192;
@@ -52,24 +53,63 @@ pub enum BlockAnswer {
     Refused(Refusal),
 }
 
-// How many of the places 0 to n of a block, the checksum's among them, are taken from copy one, are taken from copy two, and are lost.
+// How many bytes are bad by each cause: by the marker, by one of the eight bits, by the parity bit, and by the number of ones. They stand in
+// the order of their numbers, for C too; no contract sees that order, the tests do.
+#[repr(C)]
+pub struct ByCause {
+    pub marker: u64,
+    pub bit0: u64,
+    pub bit1: u64,
+    pub bit2: u64,
+    pub bit3: u64,
+    pub bit4: u64,
+    pub bit5: u64,
+    pub bit6: u64,
+    pub bit7: u64,
+    pub parity: u64,
+    pub ones: u64,
+}
+
+impl ByCause {
+    pub fn none() -> ByCause
+        ensures { λ r. ⌜ r ≡ noBad ⌝ }
+    {
+        ByCause {
+            marker: 0,
+            bit0: 0,
+            bit1: 0,
+            bit2: 0,
+            bit3: 0,
+            bit4: 0,
+            bit5: 0,
+            bit6: 0,
+            bit7: 0,
+            parity: 0,
+            ones: 0,
+        }
+    }
+}
+
+// How many of the places 0 to n of a block, the checksum's among them, are taken from copy one, are taken from copy two, and are lost; and how
+// many bytes of both copies at these places are bad, by their causes.
 pub struct Tally {
     pub one: usize,
     pub two: usize,
     pub lost: usize,
+    pub bad: ByCause,
 }
 
-// What looking at a block tells: what the block reader would answer, and where the values come from.
+// What looking at a block tells: what the block reader would answer, where the values come from, and the bad bytes.
 pub struct Look {
     pub answer: BlockAnswer,
     pub tally: Tally,
 }
 
-// What rule 4 says of a place: its value is copy one's, or it is copy two's, or it is lost.
+// What rule 4 says of a place: its value is copy one's, or it is copy two's, or it is lost, for these causes.
 pub enum PlaceRead {
     One(u8),
     Two(u8),
-    Neither,
+    Neither(Causes),
 }
 
 // What reading one place answers.

@@ -2,11 +2,11 @@
 use super::BlockAnswer;
 use super::COUNTDOWNS;
 use super::Extent;
-use super::PlaceRead;
 use super::flags;
 use super::values;
-use byte::ByteRead;
+use byte::FrameRead;
 use pulse::Thresholds;
+use refusal::Causes;
 use refusal::Reason;
 use start::COUNTDOWN_BYTES;
 use start::Copies;
@@ -14,16 +14,23 @@ use start::CopiesAnswer;
 use start::Found;
 ghost use Prim.Native.Nat.{_+_, _*_, _≤_, _<_};
 ghost use mathlib.Core.Path.{_≡_};
+ghost use mathlib.Core.Bool.{true};
 ghost use lib.ListN.{length};
 ghost use Rattle.lists.specs.Places.{firstFrom};
 ghost use Rattle.refusal.specs.Refusal.{refusalAt};
 ghost use Rattle.pulse.specs.Pulse.{classes};
-ghost use Rattle.byte.specs.Byte.{readFrame, isGood};
+ghost use Rattle.byte.specs.Byte.{readFrame};
 ghost use Rattle.start.specs.Start.{foundAt};
 ghost use Rattle.start.specs.Copies.{copyPulses, copyTwo, endOf};
-ghost use Rattle.block.specs.Reading.{isCounted, isMiscounted, placeAt, readCopies, readAt, BlockPromise};
-ghost use Rattle.block.specs.Looking.{placeRead};
-ghost use Rattle.block.specs.private.Checks.{Checked};
+ghost use Rattle.block.specs.Reading.{isCounted, isMiscounted, placeAt, isLost, causesAt, readCopies, readAt, BlockPromise};
+ghost use Rattle.block.specs.private.Checks.{sourceOf, hasValue, Checked};
+
+// Where the value of a place comes from, without the causes of a place that is lost.
+pub enum Source {
+    One(u8),
+    Two(u8),
+    Neither,
+}
 
 // What rules 4 and 5 say of the values. Sound ones come with the number of repaired places, the checksum's among them.
 pub enum Check {
@@ -68,7 +75,7 @@ fn read_copies(
     }
     let mut row = [0u8; flags::ROW_BYTES];
     match check_values(t, strip, one, two, n, &mut row) {
-        Check::LostAt(i) => refused(Reason::LostByte, i),
+        Check::LostAt(i) => lost_at(t, strip, one, two, i),
         Check::WrongSum => refused(Reason::WrongChecksum, n),
         Check::Sound(repaired) => {
             values::fill_values(t, strip, one, two, n, repaired, &row, out);
@@ -78,6 +85,26 @@ fn read_copies(
                 end: copies.end,
             })
         }
+    }
+}
+
+// Refusal 6 at place i, with its causes.
+pub fn lost_at(t: Thresholds, strip: &[u32], one: usize, two: usize, i: usize) -> BlockAnswer
+    requires { ⌜ (one ≤ two) × (two + 20 * (10 + i) ≤ length (now strip)) × (isLost (classes t (now strip)) one two i ≡ true) ⌝ }
+    ensures { λ r. ⌜ r ≡ BlockAnswer.Refused (refusalAt (Reason.LostByte (causesAt (classes t (now (strip .entry))) one two i)) i) ⌝ }
+{
+    refused(Reason::LostByte(causes_at(t, strip, one, two, i)), i)
+}
+
+// Why both bytes of a place that is lost are bad.
+pub fn causes_at(t: Thresholds, strip: &[u32], one: usize, two: usize, i: usize) -> Causes
+    requires { ⌜ (one ≤ two) × (two + 20 * (10 + i) ≤ length (now strip)) × (isLost (classes t (now strip)) one two i ≡ true) ⌝ }
+    ensures { λ r. ⌜ r ≡ causesAt (classes t (now (strip .entry))) one two i ⌝ }
+{
+    let at = byte::BYTE_PULSES * (COUNTDOWN_BYTES + i);
+    Causes {
+        one: byte::first_wrong(t, &strip[one + at..one + at + byte::BYTE_PULSES]),
+        two: byte::first_wrong(t, &strip[two + at..two + at + byte::BYTE_PULSES]),
     }
 }
 
@@ -103,9 +130,9 @@ fn is_counted(t: Thresholds, strip: &[u32], one: usize, two: usize, i: usize) ->
 
 // Whether a frame is a good byte of this value.
 fn holds(t: Thresholds, frame: &[u32], value: u8) -> bool
-    ensures { λ r. ⌜ r ≡ isGood value (readFrame (classes t (now (frame .entry)))) ⌝ }
+    ensures { λ r. ⌜ r ≡ hasValue value (readFrame (classes t (now (frame .entry)))) ⌝ }
 {
-    let ByteRead::Good(read) = byte::read_frame(t, frame) else {
+    let FrameRead::Value(read) = byte::read_frame(t, frame) else {
         return false;
     };
     read == value
@@ -126,22 +153,24 @@ pub fn first_miscounted(t: Thresholds, strip: &[u32], one: usize, two: usize) ->
 }
 
 // Rule 4 at place i after the countdown: copy one's byte where it is good, else copy two's.
-fn read_place(t: Thresholds, strip: &[u32], one: usize, two: usize, i: usize) -> PlaceRead
+fn read_place(t: Thresholds, strip: &[u32], one: usize, two: usize, i: usize) -> Source
     requires { ⌜ (one ≤ two) × (two + 20 * (10 + i) ≤ length (now strip)) ⌝ }
-    ensures { λ r. ⌜ placeRead r ≡ placeAt (classes t (now (strip .entry))) one two i ⌝ }
+    ensures { λ r. ⌜ r ≡ sourceOf (placeAt (classes t (now (strip .entry))) one two i) ⌝ }
 {
     let at = byte::BYTE_PULSES * (COUNTDOWN_BYTES + i);
-    let ByteRead::Good(first) = byte::read_frame(t, &strip[one + at..one + at + byte::BYTE_PULSES])
-    else {
-        let ByteRead::Good(second) = byte::read_frame(
+    let FrameRead::Value(first) = byte::read_frame(
+        t,
+        &strip[one + at..one + at + byte::BYTE_PULSES],
+    ) else {
+        let FrameRead::Value(second) = byte::read_frame(
             t,
             &strip[two + at..two + at + byte::BYTE_PULSES],
         ) else {
-            return PlaceRead::Neither;
+            return Source::Neither;
         };
-        return PlaceRead::Two(second);
+        return Source::Two(second);
     };
-    PlaceRead::One(first)
+    Source::One(first)
 }
 
 // Rules 4 and 5: whether a place is lost, and whether the checksum holds for the repaired values. It does exactly where these and the
@@ -154,7 +183,7 @@ fn check_values(
     n: usize,
     row: &mut [u8],
 ) -> Check
-    requires { ⌜ (one ≤ two) × (two + copyPulses n ≤ length (now strip)) × (n < 128 * length (now row)) ⌝ }
+    requires { ⌜ (one ≤ two) × (two + copyPulses n ≤ length (now strip)) × (n ≤ 128 * length (now row)) ⌝ }
     ensures { λ r. ⌜ Checked (classes t (now (strip .entry))) one two n r (now (row .exit)) ⌝ }
 {
     let mut sum: u8 = 0;
@@ -162,15 +191,15 @@ fn check_values(
     let mut i: usize = 0;
     while i <= n {
         match read_place(t, strip, one, two, i) {
-            PlaceRead::One(first) => {
+            Source::One(first) => {
                 sum = sum ^ first;
             }
-            PlaceRead::Two(second) => {
+            Source::Two(second) => {
                 flags::raise_flag(row, i / flags::GROUP_PLACES);
                 repaired = repaired + 1;
                 sum = sum ^ second;
             }
-            PlaceRead::Neither => {
+            Source::Neither => {
                 return Check::LostAt(i);
             }
         }

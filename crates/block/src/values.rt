@@ -1,6 +1,6 @@
 // The values of a block that passed. In a group without a repaired place no byte is checked again. What is here is here for speed.
 use super::flags;
-use byte::ByteRead;
+use byte::FrameRead;
 use pulse::Cycles;
 use pulse::Thresholds;
 use start::COUNTDOWN_BYTES;
@@ -17,7 +17,8 @@ ghost use Rattle.block.specs.Reading.{isLost, valueAt, valuesAt};
 ghost use Rattle.block.specs.private.Values.{bitsAt, bitsOf, HoldsBits};
 ghost use Rattle.block.specs.private.Checks.{repairs, Flagged, SameFlags, NoneLost};
 
-// Puts the values of a block that passed: the bits of one copy, and where some places are repaired and some are not, these again.
+// Puts the values of a block that passed: the bits of one copy, and where some places are repaired and some are not, the runs with a repaired
+// one again.
 pub fn fill_values(
     t: Thresholds,
     strip: &[u32],
@@ -128,8 +129,10 @@ fn value_at(t: Thresholds, strip: &[u32], one: usize, two: usize, i: usize) -> u
     ensures { λ r. ⌜ r ≡ valueAt (classes t (now (strip .entry))) one two i ⌝ }
 {
     let at = byte::BYTE_PULSES * (COUNTDOWN_BYTES + i);
-    let ByteRead::Good(value) = byte::read_frame(t, &strip[one + at..one + at + byte::BYTE_PULSES])
-    else {
+    let FrameRead::Value(value) = byte::read_frame(
+        t,
+        &strip[one + at..one + at + byte::BYTE_PULSES],
+    ) else {
         return bits_at(t, strip, two + at);
     };
     value

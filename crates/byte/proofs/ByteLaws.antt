@@ -26,7 +26,7 @@ use Rattle.pulse.specs.Pulse.{classOf, classes, same}
 use Rattle.pulse.proofs.PulseLaws.{same-eq}
 use Rattle.byte.specs.declared.ByteRead.{ByteRead}
 use Rattle.byte.specs.declared.ByteRead.the-variants.{Good, Bad}
-use Rattle.byte.specs.Byte.{isOdd, bits, parityBit, coded, byteClasses, pairOf, isSound, bitOf, pairAt, nthPair, nthBit, wrongPair, valueOf, checked, byteOf, readFrame, twenty, byteAt, isGood, isBad}
+use Rattle.byte.specs.Byte.{isOdd, bits, parityBit, coded, byteClasses, pairOf, isSound, bitOf, pairAt, nthPair, nthBit, wrongPair, valueOf, checked, byteOf, valueIn, readFrame, twenty, byteAt, isGood, isBad}
 use Rattle.byte.proofs.PairLaws.{bit-lt, pair-past}
 use Rattle.byte.proofs.CodingLaws.{coded-append, value-lt}
 
@@ -34,11 +34,7 @@ use Rattle.byte.proofs.CodingLaws.{coded-append, value-lt}
 
 pub isGood-true : (v : ℕ) (r : ByteRead) → isGood v r ≡ true → r ≡ Good v
 isGood-true v (Good w) e = ap Good (eqb-true w v e)
-isGood-true v Bad e = absurd (let z : _≡_ {A = ℕ} 0 1 = cc in omega arith)
-
-pub isBad-true : (r : ByteRead) → isBad r ≡ true → r ≡ Bad
-isBad-true (Good v) e = absurd (let z : _≡_ {A = ℕ} 0 1 = cc in omega arith)
-isBad-true Bad e = refl
+isGood-true v (Bad cause) e = absurd (let z : _≡_ {A = ℕ} 0 1 = cc in omega arith)
 
 pub byteOf-written : (b : ℕ) → b < 256 → byteOf (byteClasses b) ≡ Good b
 unfolding byteOf firstFrom tabulate pairAt pairOf same valueOf byteClasses coded bits parityBit isOdd ones
@@ -89,7 +85,7 @@ bits-value f h (suc count) at =
 
 checked-good : (o : Option ℕ) (w d v : ℕ) → checked o w d ≡ Good v → (o ≡ none) × (w ≡ v) × (isOdd (ones w + d) ≡ true)
 checked-good none w d v e =
-    let h = cond-first (isOdd (ones w + d)) (Good w) Bad (Good v) (λ n. let z : _≡_ {A = ℕ} 0 1 = cc in omega arith) e in
+    let h = cond-first (isOdd (ones w + d)) (Good w) (Bad 10) (Good v) (λ n. let z : _≡_ {A = ℕ} 0 1 = cc in omega arith) e in
     (refl, cc, h .0)
 checked-good (some i) w d v e = absurd (let z : _≡_ {A = ℕ} 0 1 = cc in omega arith)
 
@@ -148,7 +144,7 @@ module _ (ys : List Class) (v : ℕ) (e : byteOf ys ≡ Good v) where
 -- what is not good with any value is bad
 not-good : (r : ByteRead) → ((v : ℕ) → r ≡ Good v → ⊥) → isBad r ≡ true
 not-good (Good v) h = absurd (h v refl)
-not-good Bad h = refl
+not-good (Bad cause) h = refl
 
 -- fewer than twenty pulses
 byteOf-fewer : (ys : List Class) → length ys < 20 → isBad (byteOf ys) ≡ true
@@ -188,9 +184,9 @@ module _ (cs : List Class) (p : ℕ) where
 
 -- the frame from a place of a strip on, cut out of it
 pub readFrame-part : (t : Thresholds) (strip : List ℕ) (at : ℕ) → at + 20 ≤ length strip
-    → readFrame (classes t (part strip at (at + 20 - at))) ≡ byteAt (classes t strip) at
+    → readFrame (classes t (part strip at (at + 20 - at))) ≡ valueIn (byteAt (classes t strip) at)
 unfolding readFrame byteAt
 readFrame-part t strip at h =
     let e : at + 20 - at ≡ 20 = omega arith in
     let n : length (part strip at 20) ≡ 20 = simp (length-take, length-drop) (omega arith) in
-    rw (e, length-map (part strip at 20) (classOf t), eq-eqb (length (part strip at 20)) 20 n) (ap byteOf (sym (part-map (classOf t) strip at 20)))
+    rw (e, length-map (part strip at 20) (classOf t), eq-eqb (length (part strip at 20)) 20 n) (ap (λ (ys : List Class). valueIn (byteOf ys)) (sym (part-map (classOf t) strip at 20)))

@@ -1,18 +1,21 @@
--- Laws of bits as pulses: how many there are, where they stand, and that none is noise.
+-- Laws of bits as pulses: how many there are, where they stand, and that none is noise; and of the number that they make.
 use Prim.Native.Nat.{ℕ, zero, suc, _+_, _*_, _^_, _<_}
 use native.Mathlib.Nat.{pow-suc, add-comm}
 use native.Mathlib.Omega.{arith}
-use mathlib.Core.Path.{_≡_, refl, sym, ap, _∙_}
+use mathlib.Core.Path.{_≡_, refl, sym, ap, ap₂, _∙_}
+use mathlib.Core.Bool.{Bool, true, false, cond}
 use mathlib.Core.List.{List, [], _∷_, _++_}
 use lib.Bits.{bitOr, or-shifted-r}
+use lib.Count.{ones, ones-cat}
 use lib.ListN.{length, length-append, length-map}
-use Rattle.lists.specs.Places.{tabulate}
+use Rattle.lists.specs.Places.{countBelow, tabulate}
 use Rattle.lists.proofs.PlaceLaws.{tabulate-snoc, length-tabulate}
 use Rattle.pulse.specs.declared.Class.{Class}
 use Rattle.pulse.specs.declared.Class.the-variants.{Short, Medium, Long}
 use Rattle.pulse.specs.Pulse.{same, writtenAs, NoNoise}
 use Rattle.pulse.proofs.PulseLaws.{noNoise-none, noNoise-cons, noNoise-append}
 use Rattle.byte.specs.Byte.{bits, parityBit, coded, byteClasses, bytePulses, bytesClasses, bytesPulses, valueOf}
+use Rattle.byte.proofs.PairLaws.{flag-lt}
 
 -- ---- coded
 
@@ -98,3 +101,20 @@ value-or f h count at =
     let d = f (at + count) in
     let v = valueOf (tabulate f count at) in
     or-shifted-r d count v (value-lt f h count at) ∙ add-comm (d * 2 ^ count) v ∙ sym (value-next f count at)
+
+-- ---- ones
+
+ones-flag : (t : Bool) → ones (cond t 1 0) ≡ cond t 1 0
+unfolding ones
+ones-flag true = refl
+ones-flag false = refl
+
+-- the number whose bits are flags has as many ones as flags are set
+pub ones-value : (f : ℕ → Bool) (count at : ℕ) → ones (valueOf (tabulate (λ i. cond (f i) 1 0) count at)) ≡ countBelow (λ i. f (at + i)) count
+unfolding countBelow tabulate valueOf ones
+ones-value f zero at = refl
+ones-value f (suc count) at =
+    let g : ℕ → ℕ = λ i. cond (f i) 1 0 in
+    ap ones (value-next g count at ∙ add-comm (valueOf (tabulate g count at)) (g (at + count) * 2 ^ count))
+    ∙ ones-cat count (g (at + count)) (valueOf (tabulate g count at)) (value-lt g (λ j. flag-lt (f j)) count at)
+    ∙ ap₂ (λ (a b : ℕ). a + b) (ones-flag (f (at + count))) (ones-value f count at)

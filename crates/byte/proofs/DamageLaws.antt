@@ -81,7 +81,7 @@ byteOf-differ : (b : ℕ) (ys : List Class) → b < 256 → length ys ≡ 20 →
 byteOf-differ b ys hb l h = go (byteOf ys) refl
   where
     go : (r : ByteRead) → byteOf ys ≡ r → (isBad r ≡ true) ⊎ (r ≡ Good b)
-    go Bad e = inl refl
+    go (Bad cause) e = inl refl
     go (Good v) e =
         let w : ys ≡ byteClasses v = sym (take-all 20 ys (omega arith)) ∙ byteOf-good ys v e in
         inr (ap Good (sym (differ-byte b v hb (byteOf-good-lt ys v e) (rw w at h))))

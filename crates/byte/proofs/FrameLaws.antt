@@ -25,7 +25,8 @@ use Rattle.pulse.specs.Pulse.{cycles, classOf, classes, same}
 use Rattle.byte.specs.declared.decoder.Bounds.{Bounds}
 use Rattle.byte.specs.declared.ByteRead.{ByteRead}
 use Rattle.byte.specs.declared.ByteRead.the-variants.{Good, Bad}
-use Rattle.byte.specs.Byte.{Pair, isOdd, pairOf, bitOf, isSound, pairAt, nthPair, nthBit, wrongPair, valueOf, checked, byteOf, readFrame}
+use Rattle.byte.specs.declared.FrameRead.the-variants.{Value, None}
+use Rattle.byte.specs.Byte.{Pair, isOdd, pairOf, bitOf, isSound, pairAt, nthPair, nthBit, wrongPair, valueOf, checked, byteOf, valueIn, readFrame}
 use Rattle.byte.specs.private.Frame.{boundsOf, distanceOf, classIn, closed}
 use Rattle.byte.proofs.CodingLaws.{value-next, value-lt}
 use Rattle.byte.proofs.PairLaws.{flag-lt, flag-number}
@@ -344,9 +345,9 @@ module _ (b : Bounds) (ps : List ℕ) where
 
 -- ---- After the last pulse
 
-not-good : (r : ByteRead) → ((v : ℕ) → r ≡ Good v → ⊥) → Bad ≡ r
-not-good (Good v) h = absurd (h v refl)
-not-good Bad h = refl
+no-value : (r : ByteRead) → ((v : ℕ) → r ≡ Good v → ⊥) → None ≡ valueIn r
+no-value (Good v) h = absurd (h v refl)
+no-value (Bad cause) h = refl
 
 checked-odd : (o : Option ℕ) (value parity : ℕ) → o ≡ none → isOdd (ones value + parity) ≡ true → checked o value parity ≡ Good value
 checked-odd o value parity e odd = rw (e, odd)
@@ -451,13 +452,13 @@ module _ (b : Bounds) (ps : List ℕ) (ys : List Class) (agree : (j : ℕ) → j
               | no q ↦ ap (outside b ps) (let z : j ≡ 2 * k + 1 = omega arith in z) ∙ at .second
             ]
 
-    closed-read : closed word (marked && not out) ≡ byteOf ys
+    closed-read : closed word (marked && not out) ≡ valueIn (byteOf ys)
     unfolding closed
     closed-read = by test refl
       where
-        by : (r : Bool) → test ≡ r → cond r (Good (first % 256)) Bad ≡ byteOf ys
-        by true e = sym (closed-good e)
-        by false e = not-good (byteOf ys) (λ v g. let z = sym e ∙ good-closed v g in let n : _≡_ {A = ℕ} 0 1 = cc in omega arith)
+        by : (r : Bool) → test ≡ r → cond r (Value (first % 256)) None ≡ valueIn (byteOf ys)
+        by true e = ap valueIn (sym (closed-good e))
+        by false e = no-value (byteOf ys) (λ v g. let z = sym e ∙ good-closed v g in let n : _≡_ {A = ℕ} 0 1 = cc in omega arith)
 
 -- ---- A frame
 
@@ -469,11 +470,11 @@ and-none : (t : Bool) → (t && false) ≡ false
 and-none true = refl
 and-none false = refl
 
-closed-unsound : (word : ℕ) → closed word false ≡ Bad
+closed-unsound : (word : ℕ) → closed word false ≡ None
 unfolding closed
 closed-unsound word = rw (and-none (eqb (word % 65536 / 2 + word / 65536 / 2) 511 && isOdd (ones (word % 65536 / 2 % 256) + word % 65536 / 2 / 256)))
 
-pub frame-other : (ys : List Class) → (length ys ≡ 20 → ⊥) → Bad ≡ readFrame ys
+pub frame-other : (ys : List Class) → (length ys ≡ 20 → ⊥) → None ≡ readFrame ys
 unfolding readFrame
 frame-other ys h = rw (ne-eqb (length ys) 20 h)
 

@@ -78,7 +78,7 @@ same-self c = eq-eqb (code c) (code c) refl
 
 good-other : (v : ℕ) (r : ByteRead) → (r ≡ Good v → ⊥) → isGood v r ≡ false
 good-other v (Good w) h = ne-eqb w v (λ e. h (ap Good e))
-good-other v Bad h = refl
+good-other v (Bad cause) h = refl
 
 -- pair i from a place on is as in this byte
 abbrev pub fitsAt : (cs : List Class) (p v i : ℕ) → Bool

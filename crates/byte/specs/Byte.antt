@@ -13,6 +13,8 @@ use Rattle.pulse.specs.declared.Class.the-variants.{Short, Medium, Long, Noise}
 use Rattle.pulse.specs.Pulse.{pulses, same}
 use Rattle.byte.specs.declared.ByteRead.{ByteRead}
 use Rattle.byte.specs.declared.ByteRead.the-variants.{Good, Bad}
+use Rattle.byte.specs.declared.FrameRead.{FrameRead}
+use Rattle.byte.specs.declared.FrameRead.the-variants.{Value, None}
 
 -- ---- As written
 
@@ -98,18 +100,32 @@ unfoldable pub valueOf : List ℕ → ℕ
 valueOf [] = 0
 valueOf (d ∷ ds) = d + 2 * valueOf ds
 
--- Good where no pair is wrong and the number of ones among the nine bits is odd, bad otherwise.
+-- Good where no pair is wrong and the number of ones among the nine bits is odd. Bad otherwise, with the cause: the first wrong pair, or 10
+-- where none is wrong and the number of ones is even.
 abbrev pub checked : Option ℕ → ℕ → ℕ → ByteRead
-checked none value parity = cond (isOdd (ones value + parity)) (Good value) Bad
-checked (some i) value parity = Bad
+checked none value parity = cond (isOdd (ones value + parity)) (Good value) (Bad 10)
+checked (some i) value parity = Bad i
 
 -- what twenty pulses are
 unfoldable pub byteOf : List Class → ByteRead
 byteOf ys = checked (firstFrom (wrongPair ys) 10 0) (valueOf (tabulate (nthBit ys) 8 1)) (nthBit ys 9)
 
--- what the pulses of a frame are, all of them: good only where they are twenty
-unfoldable pub readFrame : List Class → ByteRead
-readFrame ys = cond (eqb (length ys) 20) (byteOf ys) Bad
+-- the value of a good byte; a bad one has none
+abbrev pub valueIn : ByteRead → FrameRead
+valueIn (Good v) = Value v
+valueIn (Bad cause) = None
+
+-- the value that the pulses of a frame have, all of them: one only where they are twenty
+unfoldable pub readFrame : List Class → FrameRead
+readFrame ys = cond (eqb (length ys) 20) (valueIn (byteOf ys)) None
+
+-- the first wrong pair of twenty pulses, or 10 where none is wrong: the cause, where they are bad
+abbrev pub orTen : Option ℕ → ℕ
+orTen none = 10
+orTen (some i) = i
+
+unfoldable pub firstWrong : List Class → ℕ
+firstWrong ys = orTen (firstFrom (wrongPair ys) 10 0)
 
 -- the twenty pulses from a place of a strip on; fewer, where the strip ends before
 abbrev pub twenty : List Class → ℕ → List Class
@@ -127,9 +143,14 @@ pairFits value i a b =
 -- good, with this value
 abbrev pub isGood : ℕ → ByteRead → Bool
 isGood v (Good w) = eqb w v
-isGood v Bad = false
+isGood v (Bad cause) = false
 
 -- bad, for whatever cause
 abbrev pub isBad : ByteRead → Bool
 isBad (Good v) = false
-isBad Bad = true
+isBad (Bad cause) = true
+
+-- bad, for this cause
+abbrev pub isBadBy : ℕ → ByteRead → Bool
+isBadBy c (Good v) = false
+isBadBy c (Bad cause) = eqb cause c

@@ -1,3 +1,4 @@
 pub mod Byte
+pub mod Cause
 pub mod Damage
 pub mod private

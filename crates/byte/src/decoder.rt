@@ -3,8 +3,8 @@
 // A pulse is taken by its distance above the short threshold. A pair is a bit exactly where both pulses are nearer than long and one of them
 // is nearer than medium; the bit is 1 where the first is not.
 use super::BYTE_PULSES;
-use super::ByteRead;
 use super::FIRST;
+use super::FrameRead;
 use super::PAIR_PULSES;
 use super::PARITY;
 use super::VALUES;
@@ -64,16 +64,16 @@ fn larger(x: Cycles, y: Cycles) -> Cycles
     if x.0 < y.0 { y } else { x }
 }
 
-// The byte that a frame is. Bit i of the word says that pair i's first pulse is not nearer than medium, and bit 16 + i that its second is not.
+// The value of a frame. Bit i of the word says that pair i's first pulse is not nearer than medium, and bit 16 + i that its second is not.
 // The loop's end is no constant, so that the compiler unrolls it only where this is inlined, and inlines it at every call.
-pub fn decode(b: Bounds, frame: &[u32]) -> ByteRead
+pub fn decode(b: Bounds, frame: &[u32]) -> FrameRead
     ensures { λ r. ⌜ r ≡ readFrame (map (classIn b) (now (frame .entry))) ⌝ }
 {
     if frame.len() < PAIR_PULSES {
-        return ByteRead::Bad;
+        return FrameRead::None;
     }
     if BYTE_PULSES < frame.len() {
-        return ByteRead::Bad;
+        return FrameRead::None;
     }
     let marked = is_marker(b, Cycles(frame[0]), Cycles(frame[1]));
     let mut word: u32 = 0;
@@ -104,9 +104,9 @@ fn is_marker(b: Bounds, first: Cycles, second: Cycles) -> bool
     (b.long.0 <= long) & (long < b.noise.0) & (b.medium.0 <= medium) & (medium < b.long.0)
 }
 
-// The byte, by its word and whether all is sound that the word does not show. Where exactly one pulse of each pair is nearer than medium,
+// The value, by the word and whether all is sound that the word does not show. Where exactly one pulse of each pair is nearer than medium,
 // the two halves of the word add up to ones alone.
-fn close(word: u32, sound: bool) -> ByteRead
+fn close(word: u32, sound: bool) -> FrameRead
     ensures { λ r. ⌜ r ≡ closed word sound ⌝ }
 {
     let first = word % HALF / FIRST;
@@ -114,8 +114,8 @@ fn close(word: u32, sound: bool) -> ByteRead
     let value = (first % VALUES) as u8;
     let odd = super::is_odd(u8::count_ones(value) + first / VALUES);
     if (first + second == PARITY - 1) & odd & sound {
-        ByteRead::Good(value)
+        FrameRead::Value(value)
     } else {
-        ByteRead::Bad
+        FrameRead::None
     }
 }

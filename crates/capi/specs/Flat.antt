@@ -4,10 +4,13 @@ use mathlib.Core.Bool.{cond}
 use mathlib.Core.List.{List}
 use lib.Dec.{eqb}
 use lib.ListN.{length}
-use Rattle.refusal.specs.Refusal.{Why}
+use Rattle.refusal.specs.Refusal.{Why, orNone}
 use Rattle.refusal.specs.Outcome.{Outcome, refused, accepted, mapped}
 use Rattle.refusal.specs.Promise.{Answers, Fills, itself}
+use Rattle.byte.specs.declared.ByteRead.{ByteRead}
+use Rattle.byte.specs.declared.ByteRead.the-variants.{Good, Bad}
 use Rattle.block.specs.declared.Extent.{Extent}
+use Rattle.block.specs.Looking.{noBad}
 use Rattle.block.specs.Reading.{BlockRead, extentOf, payloadOf}
 use Rattle.header.specs.declared.Fields.{Fields}
 use Rattle.header.specs.Header.{Span}
@@ -21,6 +24,7 @@ use Rattle.wear.specs.Walk.{Block}
 use Rattle.tap.specs.declared.TapInfo.{TapInfo}
 use Rattle.tap.specs.Reading.{Tap, infoOf, durationsOf}
 use Rattle.capi.specs.declared.TapeRefusal.{TapeRefusal}
+use Rattle.capi.specs.declared.TapeByte.{TapeByte}
 use Rattle.capi.specs.declared.TapePut.{TapePut}
 use Rattle.capi.specs.declared.TapeBlock.{TapeBlock}
 use Rattle.capi.specs.declared.TapeFile.{TapeFile}
@@ -35,11 +39,17 @@ use Rattle.capi.specs.declared.TapeWalked.{TapeWalked}
 
 -- the refusal of an answer that is accepted
 abbrev pub noRefusal : TapeRefusal
-noRefusal = record { number = 0; block = 0; place = 0 }
+noRefusal = record { number = 0; block = 0; place = 0; «cause_one» = 0; «cause_two» = 0 }
 
--- and of one that is refused
+-- and of one that is refused; where there are no causes both are 0
 abbrev pub flatRefusal : Why → TapeRefusal
-flatRefusal why = record { number = why .number; block = why .block; place = why .place }
+flatRefusal why = record {
+  number = why .number;
+  block = why .block;
+  place = why .place;
+  «cause_one» = orNone (why .causes) .one;
+  «cause_two» = orNone (why .causes) .two;
+}
 
 -- An outcome as a struct that `make` builds of its refusal and what was given; a refusal gives `none`.
 abbrev pub flat : {A B : Type 0} (make : TapeRefusal → A → B) (none : A) → Outcome A → B
@@ -47,6 +57,11 @@ flat make none (refused why) = make (flatRefusal why) none
 flat make none (accepted given) = make noRefusal given
 
 -- ---- The structs, each with what it holds for a refusal
+
+-- a byte: where it is bad it has no value, and where it is good no cause
+abbrev pub flatByte : ByteRead → TapeByte
+flatByte (Good v) = record { good = 1; value = v; cause = 0 }
+flatByte (Bad cause) = record { good = 0; value = 0; cause = cause }
 
 abbrev pub putStruct : TapeRefusal → (count : ℕ) → TapePut
 putStruct refusal count = record { refusal = refusal; count = count }
@@ -113,6 +128,7 @@ totalsOf w = record {
   one = w .one;
   two = w .two;
   lost = w .lost;
+  bad = w .causes;
 }
 
 abbrev pub wearOf : Totals → TapeWear
@@ -125,6 +141,7 @@ wearOf t = record {
   one = t .one;
   two = t .two;
   lost = t .lost;
+  causes = t .bad;
 }
 
 abbrev pub reportStruct : TapeRefusal → TapeWear → TapeReport
@@ -159,12 +176,13 @@ flatTried b = record {
   one = b .tally .one;
   two = b .tally .two;
   lost = b .tally .lost;
+  causes = b .tally .bad;
   next = walkOf (b .next);
 }
 
 -- none was found: where the walk stands is as it was lent
 abbrev pub noBlock : (lent : TapeWalk) → Why → TapeWalked
-noBlock lent why = record { refusal = flatRefusal why; found = 0; n = 0; start = 0; end = 0; one = 0; two = 0; lost = 0; next = lent }
+noBlock lent why = record { refusal = flatRefusal why; found = 0; n = 0; start = 0; end = 0; one = 0; two = 0; lost = 0; causes = noBad; next = lent }
 
 abbrev pub flatStep : (lent : TapeWalk) → Outcome Block → TapeWalked
 flatStep lent (refused why) = noBlock lent why

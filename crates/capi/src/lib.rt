@@ -1,10 +1,13 @@
 // The C interface: the library's calls with plain structs for their answers, as `include/crumbthistle.h` declares them. A slice is a
-// pointer and a length in C. Every answer begins with its refusal.
+// pointer and a length in C. Every answer but that of reading a byte begins with its refusal.
 use block::BlockAnswer;
+use block::ByCause;
+use byte::ByteRead;
 use file::FileAnswer;
 use file::Loaded;
 use header::Fields;
 use header::HeaderAnswer;
+use pulse::Thresholds;
 use refusal::Put;
 use refusal::Refusal;
 use tap::TapAnswer;
@@ -20,6 +23,7 @@ ghost use Rattle.refusal.specs.Refusal.{whyOf};
 ghost use Rattle.refusal.specs.Outcome.{mapped};
 ghost use Rattle.refusal.specs.Promise.{putAnswer};
 ghost use Rattle.pulse.specs.Pulse.{fixed, classes};
+ghost use Rattle.byte.specs.Byte.{byteAt};
 ghost use Rattle.block.specs.Block.{writeBlock};
 ghost use Rattle.block.specs.Reading.{readBlock, blockAnswer};
 ghost use Rattle.header.specs.Header.{packHeader, unpackHeader, headerAnswer, shownSpan};
@@ -29,15 +33,25 @@ ghost use Rattle.wear.specs.Walk.{stepFrom, triedBlock, stepAnswer};
 ghost use Rattle.wear.specs.Report.{reportStrip, reportAnswer};
 ghost use Rattle.tap.specs.Tap.{writeTap};
 ghost use Rattle.tap.specs.Reading.{readTap, tapAnswer};
-ghost use Rattle.capi.specs.Flat.{noRefusal, flatRefusal, flatPut, flatBlock, loneHeader, flatFile, flatTap, flatSpan, totalsOf, wearOf, flatReport, spotOf, walkOf, flatTried, flatStep, PutFlat, BlockFlat, FileFlat, TapFlat};
+ghost use Rattle.capi.specs.Flat.{noRefusal, flatRefusal, flatByte, flatPut, flatBlock, loneHeader, flatFile, flatTap, flatSpan, totalsOf, wearOf, flatReport, spotOf, walkOf, flatTried, flatStep, PutFlat, BlockFlat, FileFlat, TapFlat};
 
-// Why a call refuses: the number of the refusal, the block and the place. All are 0 where it accepts; where it refuses, all numbers of the
-// answer after the refusal are 0, but for those of a report and of a step.
+// Why a call refuses: the number of the refusal, the block and the place; with refusal 6 also why the lost byte is bad in copy one and in copy
+// two. All are 0 where it accepts; where it refuses, all numbers of the answer after the refusal are 0, but for those of a report and of a step.
 #[repr(C)]
 pub struct TapeRefusal {
     pub number: u32,
     pub block: u32,
     pub place: u64,
+    pub cause_one: u32,
+    pub cause_two: u32,
+}
+
+// What reading a byte answers: whether it is good, the value of a good one, and the cause of a bad one.
+#[repr(C)]
+pub struct TapeByte {
+    pub good: u32,
+    pub value: u32,
+    pub cause: u32,
 }
 
 // What a writer answers: how many pulses or bytes were put.
@@ -82,7 +96,8 @@ pub struct TapeSpan {
     pub length: u64,
 }
 
-// Totals of the report: strips, the pulses of each class, and the places taken from copy one, taken from copy two, and lost.
+// Totals of the report: strips, the pulses of each class, the places taken from copy one, taken from copy two, and lost, and the bad bytes
+// by their causes, which are an array of eleven numbers in C.
 #[repr(C)]
 pub struct TapeWear {
     pub strips: u64,
@@ -93,6 +108,7 @@ pub struct TapeWear {
     pub one: u64,
     pub two: u64,
     pub lost: u64,
+    pub causes: ByCause,
 }
 
 // What the report answers: the totals with the strip added, or, where it refuses, as they were lent.
@@ -111,7 +127,8 @@ pub struct TapeWalk {
 }
 
 // What a step of a walk answers: whether a block was found, its payload bytes, start and end, its places taken from copy one, taken from copy
-// two, and lost, and where the walk goes on. A block that is found and refused has an end of 0; all its other numbers are told.
+// two, and lost, its bad bytes by their causes, and where the walk goes on. A block that is found and refused has an end of 0; all its other
+// numbers are told.
 #[repr(C)]
 pub struct TapeWalked {
     pub refusal: TapeRefusal,
@@ -122,7 +139,28 @@ pub struct TapeWalked {
     pub one: u64,
     pub two: u64,
     pub lost: u64,
+    pub causes: ByCause,
     pub next: TapeWalk,
+}
+
+// ---- Bytes
+
+#[no_mangle]
+pub extern "C" fn tape_read_byte(pulses: &[u32], at: usize) -> TapeByte
+    ensures { λ r. ⌜ r ≡ flatByte (byteAt (classes fixed (now (pulses .entry))) at) ⌝ }
+{
+    match byte::byte_at(Thresholds::fixed(), pulses, at) {
+        ByteRead::Good(value) => TapeByte {
+            good: 1,
+            value: value as u32,
+            cause: 0,
+        },
+        ByteRead::Bad(cause) => TapeByte {
+            good: 0,
+            value: 0,
+            cause: cause as u32,
+        },
+    }
 }
 
 // ---- Blocks
@@ -343,6 +381,8 @@ fn no_refusal() -> TapeRefusal
         number: 0,
         block: 0,
         place: 0,
+        cause_one: 0,
+        cause_two: 0,
     }
 }
 
@@ -350,10 +390,13 @@ fn flat_refusal(r: Refusal) -> TapeRefusal
     ensures { λ t. ⌜ t ≡ flatRefusal (whyOf r) ⌝ }
 {
     let reason = r.reason;
+    let causes = refusal::causes_of(reason);
     TapeRefusal {
         number: refusal::number_of(reason),
         block: r.block,
         place: r.place as u64,
+        cause_one: causes.one as u32,
+        cause_two: causes.two as u32,
     }
 }
 
@@ -362,6 +405,7 @@ fn flat_refusal(r: Refusal) -> TapeRefusal
 fn totals_of(w: TapeWear) -> Totals
     ensures { λ r. ⌜ r ≡ totalsOf w ⌝ }
 {
+    let bad = w.causes;
     Totals {
         strips: w.strips,
         shorts: w.shorts,
@@ -371,12 +415,14 @@ fn totals_of(w: TapeWear) -> Totals
         one: w.one,
         two: w.two,
         lost: w.lost,
+        bad,
     }
 }
 
 fn wear_of(t: Totals) -> TapeWear
     ensures { λ r. ⌜ r ≡ wearOf t ⌝ }
 {
+    let causes = t.bad;
     TapeWear {
         strips: t.strips,
         shorts: t.shorts,
@@ -386,6 +432,7 @@ fn wear_of(t: Totals) -> TapeWear
         one: t.one,
         two: t.two,
         lost: t.lost,
+        causes,
     }
 }
 
@@ -450,6 +497,7 @@ fn flat_step(lent: TapeWalk, step: Step) -> TapeWalked
             one: 0,
             two: 0,
             lost: 0,
+            causes: ByCause::none(),
             next: lent,
         },
     }
@@ -461,6 +509,7 @@ fn flat_tried(b: Tried) -> TapeWalked
     let answer = b.answer;
     let tally = b.tally;
     let next = b.next;
+    let causes = tally.bad;
     let block = flat_block(answer);
     let refusal = block.refusal;
     TapeWalked {
@@ -472,6 +521,7 @@ fn flat_tried(b: Tried) -> TapeWalked
         one: tally.one as u64,
         two: tally.two as u64,
         lost: tally.lost as u64,
+        causes,
         next: walk_of(next),
     }
 }

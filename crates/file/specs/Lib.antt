@@ -2,3 +2,4 @@ pub mod File
 pub mod Reading
 pub mod Damage
 pub mod Claim
+pub mod Causes

@@ -3,11 +3,11 @@ use Prim.Native.Nat.{ℕ, zero, suc, _+_, _≤_, _<_}
 use native.Mathlib.Omega.{arith}
 use native.Mathlib.Nat.{zero-add, add-zero, suc-add}
 use native.Mathlib.Decide.{ℕ-discrete}
-use mathlib.Core.Path.{_≡_, refl, ap, ap₂, _∙_}
+use mathlib.Core.Path.{_≡_, refl, sym, ap, ap₂, _∙_}
 use mathlib.Core.Bool.{Bool, true, false, cond}
 use mathlib.Core.List.{List, [], _∷_, _++_}
 use mathlib.Core.Option.{Option, none, some}
-use lib.ListN.{length, getD}
+use lib.ListN.{length, getD, set}
 use Rattle.lists.specs.Places.{Below, firstFrom, First, tabulate}
 
 -- ---- firstFrom
@@ -119,6 +119,26 @@ unfolding tabulate
 getD-tabulate f zero at i h = absurd (omega arith)
 getD-tabulate f (suc count) at zero h = rw add-zero
 getD-tabulate f (suc count) at (suc i) h = getD-tabulate f count (suc at) i (omega arith) ∙ ap f (let z : suc at + i ≡ at + suc i = omega arith in z)
+
+-- one place set
+pub set-table : (f g : ℕ → ℕ) (count at k v : ℕ) → k < count → g (at + k) ≡ v → ((j : ℕ) → (j ≡ at + k → ⊥) → g j ≡ f j)
+    → set (tabulate f count at) k v ≡ tabulate g count at
+unfolding tabulate
+set-table f g zero at k v h e same = absurd (omega arith)
+set-table f g (suc count) at zero v h e same =
+    ap₂ (λ (x : ℕ) (xs : List ℕ). x ∷ xs) (sym e ∙ ap g (add-zero at))
+    (tabulate-same f g count (suc at) (λ j l b. sym (same j (λ q. omega arith))))
+set-table f g (suc count) at (suc k) v h e same =
+    let z : suc at + k ≡ at + suc k = omega arith in
+    ap₂ (λ (x : ℕ) (xs : List ℕ). x ∷ xs) (sym (same at (λ q. omega arith)))
+    (set-table f g count (suc at) k v (omega arith) (ap g z ∙ e) (λ j d. same j (λ q. d (q ∙ sym z))))
+
+-- no element is above a bound
+pub table-most : (f : ℕ → ℕ) (count at bound : ℕ) → ((j : ℕ) → f j ≤ bound) → (i : ℕ) → getD (tabulate f count at) i 0 ≤ bound
+unfolding tabulate
+table-most f zero at bound most i = omega arith
+table-most f (suc count) at bound most zero = most at
+table-most f (suc count) at bound most (suc i) = table-most f count (suc at) bound most i
 
 -- ---- getD
 

@@ -11,7 +11,7 @@ use Rattle.refusal.specs.declared.Reason.{Reason}
 use Rattle.refusal.specs.declared.Reason.the-variants.{NoRoom}
 use Rattle.refusal.specs.declared.Refusal.{Refusal}
 use Rattle.refusal.specs.Refusal.{refusalAt}
-use Rattle.refusal.specs.Outcome.{Outcome, refused, accepted, refusedWith, refuse, refuseFirst, ifRoom, mapped, ofBlock, andThen}
+use Rattle.refusal.specs.Outcome.{Outcome, refused, accepted, refusedWith, refuse, refuseThere, refuseFirst, ifRoom, mapped, ofBlock, andThen}
 
 -- ---- cond: a test that refuses
 
@@ -19,13 +19,17 @@ pub cond-accepted : {A : Type 0} (t : Bool) (r : Refusal) (later : Outcome A) (g
     → (t ≡ false) × (later ≡ accepted given)
 cond-accepted t r later given = cond-second t (refusedWith r) later (accepted given) (λ e. let z : _≡_ {A = ℕ} 0 1 = cc in omega arith)
 
--- ---- refuseFirst
+-- ---- refuseThere, refuseFirst
 
 -- then no place was found
+pub refuseThere-accepted : {A : Type 0} (reason : ℕ → Reason) (found : Option ℕ) (later : Outcome A) (given : A)
+    → refuseThere reason found later ≡ accepted given → (found ≡ none) × (later ≡ accepted given)
+refuseThere-accepted reason none later given e = (refl, e)
+refuseThere-accepted reason (some place) later given e = absurd (let z : _≡_ {A = ℕ} 0 1 = cc in omega arith)
+
 pub refuseFirst-accepted : {A : Type 0} (reason : Reason) (found : Option ℕ) (later : Outcome A) (given : A)
     → refuseFirst reason found later ≡ accepted given → (found ≡ none) × (later ≡ accepted given)
-refuseFirst-accepted reason none later given e = (refl, e)
-refuseFirst-accepted reason (some place) later given e = absurd (let z : _≡_ {A = ℕ} 0 1 = cc in omega arith)
+refuseFirst-accepted reason = refuseThere-accepted (λ _. reason)
 
 -- ---- ifRoom
 

@@ -15,9 +15,9 @@ pub data Outcome (A : Type 0) : Type 0 where
 
 -- ---- Refused
 
--- with this number, block and place
+-- with this number, block and place, and no causes
 abbrev pub refusedBy : {A : Type 0} (number block place : ℕ) → Outcome A
-refusedBy number block place = refused (record { number = number; block = block; place = place })
+refusedBy number block place = refused (record { number = number; block = block; place = place; causes = none })
 
 -- as this refusal says
 abbrev pub refusedWith : {A : Type 0} → Refusal → Outcome A
@@ -27,10 +27,14 @@ refusedWith r = refused (whyOf r)
 abbrev pub refuse : {A : Type 0} (reason : Reason) (place : ℕ) → Outcome A
 refuse reason place = refusedWith (refusalAt reason place)
 
--- at the first place that was found, if there is one
+-- at the first place that was found, if there is one, for the reason there
+abbrev pub refuseThere : {A : Type 0} (reason : (place : ℕ) → Reason) (found : Option ℕ) (otherwise : Outcome A) → Outcome A
+refuseThere reason none otherwise = otherwise
+refuseThere reason (some place) otherwise = refuse (reason place) place
+
+-- the same, for one reason wherever it is
 abbrev pub refuseFirst : {A : Type 0} (reason : Reason) (found : Option ℕ) (otherwise : Outcome A) → Outcome A
-refuseFirst reason none otherwise = otherwise
-refuseFirst reason (some place) otherwise = refuse reason place
+refuseFirst reason found otherwise = refuseThere (λ _. reason) found otherwise
 
 -- with 2 where an output of `room` places is shorter than the n that must be put there
 unfoldable pub ifRoom : {A : Type 0} (room n : ℕ) (otherwise : Outcome A) → Outcome A

@@ -1,5 +1,7 @@
 -- Refusals (document 01, 'Refusal numbers').
 use Prim.Native.Nat.{ℕ}
+use mathlib.Core.Option.{Option, none, some}
+use Rattle.refusal.specs.declared.Causes.{Causes}
 use Rattle.refusal.specs.declared.Reason.{Reason}
 use Rattle.refusal.specs.declared.Reason.the-variants.{WrongSize, NoRoom, NoStart, CutShort, WrongCountdown, LostByte, WrongChecksum, WrongType, WrongAddresses, WrongTapHeader, WrongTapVersion, CutLongForm, NoTapForm, WrongLeader}
 use Rattle.refusal.specs.declared.Refusal.{Refusal}
@@ -18,7 +20,7 @@ numberOf CutShort = 4
 -- a countdown place fails rule 3
 numberOf WrongCountdown = 5
 -- a place is lost
-numberOf LostByte = 6
+numberOf (LostByte causes) = 6
 -- rule 5 fails
 numberOf WrongChecksum = 7
 -- the type is not 1 or 3 in a program file, not 1 to 5 in a lone header
@@ -36,15 +38,38 @@ numberOf NoTapForm = 13
 -- K under 64 or over 65,535
 numberOf WrongLeader = 14
 
+-- a lost place has two causes, copy one's and copy two's, and no other reason has any
+abbrev pub causesOf : Reason → Option Causes
+causesOf WrongSize = none
+causesOf NoRoom = none
+causesOf NoStart = none
+causesOf CutShort = none
+causesOf WrongCountdown = none
+causesOf (LostByte causes) = some causes
+causesOf WrongChecksum = none
+causesOf WrongType = none
+causesOf WrongAddresses = none
+causesOf WrongTapHeader = none
+causesOf WrongTapVersion = none
+causesOf CutLongForm = none
+causesOf NoTapForm = none
+causesOf WrongLeader = none
+
+-- where there are none both stand as 0
+abbrev pub orNone : Option Causes → Causes
+orNone none = record { one = 0; two = 0 }
+orNone (some causes) = causes
+
 -- why a call refuses, in these numbers
 pub record Why : Type 0 where
   pub number : ℕ
   pub block : ℕ
   pub place : ℕ
+  pub causes : Option Causes
 
 -- a refusal that is answered, in these numbers
 abbrev pub whyOf : Refusal → Why
-whyOf r = record { number = numberOf (r .reason); block = r .block; place = r .place }
+whyOf r = record { number = numberOf (r .reason); block = r .block; place = r .place; causes = causesOf (r .reason) }
 
 -- a refusal that names block 0: of a header, a lone block, or no block at all
 abbrev pub refusalAt : (reason : Reason) (place : ℕ) → Refusal
@@ -55,4 +80,4 @@ abbrev pub inBlock : (block : ℕ) → Refusal → Refusal
 inBlock block r = record { reason = r .reason; block = block; place = r .place }
 
 abbrev pub whyIn : (block : ℕ) → Why → Why
-whyIn block why = record { number = why .number; block = block; place = why .place }
+whyIn block why = record { number = why .number; block = block; place = why .place; causes = why .causes }

@@ -1,15 +1,22 @@
 // Refusals. A call that refuses its input tells the reason, the block and the place; it alters nothing in a lent buffer.
 ghost use mathlib.Core.Path.{_≡_};
-ghost use Rattle.refusal.specs.Refusal.{numberOf, refusalAt, inBlock};
+ghost use Rattle.refusal.specs.Refusal.{numberOf, causesOf, orNone, refusalAt, inBlock};
 
-// The reasons, in the order of their numbers.
+// Why a lost byte is bad, in copy one and in copy two: the first of its pairs that is wrong, 0 for the marker to 9 for the parity bit, or 10 where
+// none is wrong and the number of ones is even.
+pub struct Causes {
+    pub one: u8,
+    pub two: u8,
+}
+
+// The reasons, in the order of their numbers. A lost byte has its causes, and no other reason has any.
 pub enum Reason {
     WrongSize,
     NoRoom,
     NoStart,
     CutShort,
     WrongCountdown,
-    LostByte,
+    LostByte(Causes),
     WrongChecksum,
     WrongType,
     WrongAddresses,
@@ -43,7 +50,7 @@ pub fn number_of(reason: Reason) -> u32
         Reason::NoStart => 3,
         Reason::CutShort => 4,
         Reason::WrongCountdown => 5,
-        Reason::LostByte => 6,
+        Reason::LostByte(_) => 6,
         Reason::WrongChecksum => 7,
         Reason::WrongType => 8,
         Reason::WrongAddresses => 9,
@@ -52,6 +59,28 @@ pub fn number_of(reason: Reason) -> u32
         Reason::CutLongForm => 12,
         Reason::NoTapForm => 13,
         Reason::WrongLeader => 14,
+    }
+}
+
+// The causes of a lost byte; both are 0 where the reason has none.
+pub fn causes_of(reason: Reason) -> Causes
+    ensures { λ r. ⌜ r ≡ orNone (causesOf reason) ⌝ }
+{
+    match reason {
+        Reason::WrongSize => Causes { one: 0, two: 0 },
+        Reason::NoRoom => Causes { one: 0, two: 0 },
+        Reason::NoStart => Causes { one: 0, two: 0 },
+        Reason::CutShort => Causes { one: 0, two: 0 },
+        Reason::WrongCountdown => Causes { one: 0, two: 0 },
+        Reason::LostByte(causes) => causes,
+        Reason::WrongChecksum => Causes { one: 0, two: 0 },
+        Reason::WrongType => Causes { one: 0, two: 0 },
+        Reason::WrongAddresses => Causes { one: 0, two: 0 },
+        Reason::WrongTapHeader => Causes { one: 0, two: 0 },
+        Reason::WrongTapVersion => Causes { one: 0, two: 0 },
+        Reason::CutLongForm => Causes { one: 0, two: 0 },
+        Reason::NoTapForm => Causes { one: 0, two: 0 },
+        Reason::WrongLeader => Causes { one: 0, two: 0 },
     }
 }
 

@@ -10,9 +10,10 @@ use mathlib.Core.Option.{Option, none, some}
 use lib.Dec.{ltb}
 use lib.ListN.{length}
 use Rattle.lists.specs.Places.{firstFrom}
+use Rattle.refusal.specs.declared.Causes.{Causes}
 use Rattle.refusal.specs.declared.Reason.the-variants.{WrongSize, NoStart, WrongCountdown, LostByte, WrongChecksum}
 use Rattle.refusal.specs.Refusal.{refusalAt}
-use Rattle.refusal.specs.Outcome.{Outcome, refused, accepted, refuse, refuseFirst, mapped, ofBlock, andThen}
+use Rattle.refusal.specs.Outcome.{Outcome, refused, accepted, refuse, refuseThere, refuseFirst, mapped, ofBlock, andThen}
 use Rattle.refusal.proofs.OutcomeLaws.{cond-accepted, andThen-accepted, ifRoom-accepted, mapped-accepted, ofBlock-accepted}
 use Rattle.pulse.specs.declared.Class.{Class}
 use Rattle.start.specs.Start.{startOf, startAt, findStart}
@@ -20,7 +21,7 @@ use Rattle.start.specs.Copies.{copyTwo, endOf}
 use Rattle.start.proofs.CopiesLaws.{locateCopies-cutShort, locateCopies-within}
 use Rattle.block.specs.declared.BlockAnswer.{BlockAnswer}
 use Rattle.block.specs.Block.{wrongSize}
-use Rattle.block.specs.Reading.{isMiscounted, isLost, valuesAt, sumHolds, BlockRead, extentOf, blockAt, readCopies, readAt, readFrom, readBlock, blockAnswer, BlockPromise}
+use Rattle.block.specs.Reading.{isMiscounted, isLost, causesAt, valuesAt, sumHolds, BlockRead, extentOf, blockAt, readCopies, readAt, readFrom, readBlock, blockAnswer, BlockPromise}
 use Rattle.block.specs.Looking.{counted}
 use Rattle.block.proofs.ReadingLaws.{readBlock-room, readAt-accepted}
 use Rattle.block.proofs.LookingLaws.{tally-whole, look-within, look-cutShort}
@@ -35,7 +36,7 @@ use Rattle.wear.specs.declared.Trial.the-variants.{Header, Data}
 use Rattle.wear.specs.declared.Spot.{Spot}
 use Rattle.wear.specs.declared.Totals.{Totals}
 use Rattle.wear.specs.Walk.{sizeOf, blockOf, spot, afterHeader, afterBlock, nextSpot, beginning, Block, tryAt, stepFrom, thenBlocks, walkFor, blocksFrom, blocks}
-use Rattle.wear.specs.Report.{total, oneOf, twoOf, lostOf, added, isFull, reportStrip}
+use Rattle.wear.specs.Report.{total, oneOf, twoOf, lostOf, badOf, added, isFull, reportStrip}
 use Rattle.wear.specs.Claim.{isCut, nextOr, spotAfter, reportStrips, addedInSteps, reportInSteps, pulsesIn, FileTold, Walks}
 use Rattle.wear.proofs.ClassLaws.{classes-whole}
 use Rattle.wear.proofs.WalkLaws.{step-told, walk-unfolds}
@@ -44,12 +45,12 @@ use Rattle.wear.proofs.Walking.{one-most, two-most, lost-most}
 -- ---- The counts of a block
 
 -- copies that lie on the strip are not refused with 4
-not-cut : (k n : ℕ) (counted lost : Option ℕ) (holds : Bool) (b : BlockRead)
-    → isCut (ofBlock k (mapped extentOf (refuseFirst WrongCountdown counted (refuseFirst LostByte lost (cond holds (accepted b) (refuse WrongChecksum n)))))) ≡ false
-not-cut k n (some i) lost holds b = refl
-not-cut k n none (some i) holds b = refl
-not-cut k n none none true b = refl
-not-cut k n none none false b = refl
+not-cut : (causes : ℕ → Causes) (k n : ℕ) (counted lost : Option ℕ) (holds : Bool) (b : BlockRead)
+    → isCut (ofBlock k (mapped extentOf (refuseFirst WrongCountdown counted (refuseThere (λ i. LostByte (causes i)) lost (cond holds (accepted b) (refuse WrongChecksum n)))))) ≡ false
+not-cut causes k n (some i) lost holds b = refl
+not-cut causes k n none (some i) holds b = refl
+not-cut causes k n none none true b = refl
+not-cut causes k n none none false b = refl
 
 counts : (cs : List Class) (at : Spot) (b : Block) → stepFrom cs at ≡ accepted b → counted (b .tally) ≡ cond (isCut (b .outcome)) 0 (b .n + 1)
 unfolding tryAt readAt readCopies
@@ -64,7 +65,7 @@ counts cs at b e =
           rw (
             look-within cs p n (t .size) h,
             locateCopies-within (length cs) p n h,
-            not-cut k n (firstFrom (isMiscounted cs p q) 9 0) (firstFrom (isLost cs p q) (n + 1) 0) (sumHolds cs p q n) (blockAt p n (valuesAt cs p q n)),
+            not-cut (causesAt cs p q) k n (firstFrom (isMiscounted cs p q) 9 0) (firstFrom (isLost cs p q) (n + 1) 0) (sumHolds cs p q n) (blockAt p n (valuesAt cs p q n)),
           )
           (tally-whole cs p q n)
       | no h ↦ rw (look-cutShort cs p n (t .size) (omega arith), locateCopies-cutShort (length cs) p n (omega arith))
@@ -225,7 +226,23 @@ in-steps steps t cs =
     let all : (count : Block → ℕ) (x : ℕ) → x + total count (walkFor steps cs beginning) + total count (blocksFrom cs (spotAfter steps cs beginning)) ≡ x + total count (blocks cs) =
     λ count x. omega (arith, ap (total count) (cut steps cs beginning), total-append count (walkFor steps cs beginning) (blocksFrom cs (spotAfter steps cs beginning)))
     in
-    rw (all oneOf (t .one), all twoOf (t .two), all lostOf (t .lost))
+    let b = t .bad in
+    rw (
+      all oneOf (t .one),
+      all twoOf (t .two),
+      all lostOf (t .lost),
+      all (badOf 0) (b .marker),
+      all (badOf 1) (b .bit0),
+      all (badOf 2) (b .bit1),
+      all (badOf 3) (b .bit2),
+      all (badOf 4) (b .bit3),
+      all (badOf 5) (b .bit4),
+      all (badOf 6) (b .bit5),
+      all (badOf 7) (b .bit6),
+      all (badOf 8) (b .bit7),
+      all (badOf 9) (b .parity),
+      all (badOf 10) (b .ones),
+    )
 
 totals : (steps : ℕ) (t : Totals) (strips : List (List Class)) → reportInSteps steps t strips ≡ reportStrips t strips
 unfolding reportInSteps reportStrips

@@ -5,3 +5,4 @@ pub mod WalkLaws
 mod Walking
 mod Adding
 pub mod Claims
+pub mod Causing

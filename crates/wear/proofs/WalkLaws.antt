@@ -1,7 +1,7 @@
 -- Laws of the walk: each step goes on, so the walk ends, and it is one step and the walk from there.
 use Prim.Native.Nat.{ℕ, zero, suc, _+_, _-_, _≤_, _<_}
 use native.Mathlib.Omega.{arith}
-use mathlib.Core.Path.{_≡_, refl, sym, ap}
+use mathlib.Core.Path.{_≡_, refl, sym, ap, subst}
 use mathlib.Core.Bool.{false}
 use mathlib.Core.List.{List, [], _∷_}
 use native.Mathlib.Decide.{decLe}
@@ -16,13 +16,15 @@ use Rattle.start.specs.Copies.{copyTwo, endOf}
 use Rattle.start.proofs.StartLaws.{findStart-within}
 use Rattle.block.specs.Block.{wrongSize}
 use Rattle.block.specs.Reading.{BlockRead, readAt}
-use Rattle.block.specs.Looking.{counted, lookAt}
+use Rattle.block.specs.declared.Tally.{Tally}
+use Rattle.block.specs.Looking.{forCause, counted, Looked, lookAt}
 use Rattle.block.proofs.BlockLaws.{wrongSize-within}
 use Rattle.block.proofs.ReadingLaws.{readAt-accepted}
-use Rattle.block.proofs.LookingLaws.{tally-whole, look-within, look-cutShort}
+use Rattle.block.proofs.LookingLaws.{tally-whole, look-within, look-cutShort, for-most, tally-bad}
 use Rattle.wear.specs.declared.Trial.{Trial}
 use Rattle.wear.specs.declared.Spot.{Spot}
 use Rattle.wear.specs.Walk.{sizeOf, nextSpot, Block, tryAt, stepFrom, thenBlocks, walkFor, blocksFrom}
+use Rattle.wear.specs.Report.{badOf}
 
 -- ---- One step
 
@@ -67,6 +69,19 @@ told-counted cs at b t =
     rw (← same) (elim (decLe (endOf (b .start) n) (length cs)) [
       | yes h ↦ rw (look-within cs (b .start) n (t .size) h) (omega (arith, tally-whole cs (b .start) (copyTwo (b .start) n) n))
       | no h ↦ rw (look-cutShort cs (b .start) n (t .size) (omega arith)) (omega arith)
+    ])
+
+-- its bad bytes are at most two for each of its places
+pub told-bad : (cs : List Class) (at : Spot) (b : Block) → Told cs at b → (cause : ℕ) → badOf cause b ≤ 16386
+unfolding tryAt
+told-bad cs at b t cause =
+    let n = sizeOf (at .trial) in
+    let size = wrongSize-within n (t .size) in
+    let same : lookAt cs (b .start) n .tally ≡ b .tally = ap (λ (x : Block). x .tally) (t .tried) in
+    let few : Tally → Type 0 = λ x. forCause cause (x .bad) ≤ 16386 in
+    subst few same (elim (decLe (endOf (b .start) n) (length cs)) [
+      | yes h ↦ subst few (sym (look-within cs (b .start) n (t .size) h)) (omega (arith, tally-bad cs (b .start) (copyTwo (b .start) n) n cause))
+      | no h ↦ subst few (sym (ap (λ (x : Looked). x .tally) (look-cutShort cs (b .start) n (t .size) (omega arith)))) (for-most (λ _. 0) 16386 (λ c. omega arith) cause)
     ])
 
 -- ---- Step after step

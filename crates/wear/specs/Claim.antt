@@ -1,18 +1,22 @@
--- What holds of the walk and of the report (document 02, Q-1).
+-- What holds of the walk and of the report (document 02, Q-1), and of the causes that they tell (Q-6).
 use Prim.Native.Nat.{ℕ, zero, suc, _+_, _*_, _≤_, _<_}
 use mathlib.Core.Path.{_≡_}
-use mathlib.Core.Bool.{Bool, false, cond}
+use mathlib.Core.Bool.{Bool, true, false, cond}
 use mathlib.Core.List.{List, [], _∷_, _++_}
+use mathlib.Core.Option.{none}
 use lib.Dec.{eqb}
 use lib.ListN.{length}
 use Rattle.refusal.specs.declared.Reason.the-variants.{NoStart}
+use Rattle.refusal.specs.Refusal.{Why}
 use Rattle.refusal.specs.Outcome.{Outcome, refused, accepted, refuse, ofBlock, mapped, andThen}
 use Rattle.pulse.specs.declared.Class.{Class}
 use Rattle.pulse.specs.declared.Class.the-variants.{Short, Medium, Long, Noise}
+use Rattle.start.specs.Copies.{copyTwo}
 use Rattle.block.specs.declared.Extent.{Extent}
 use Rattle.block.specs.declared.BlockAnswer.{BlockAnswer}
 use Rattle.block.specs.Reading.{readBlock, blockAnswer, BlockPromise}
-use Rattle.block.specs.Looking.{counted}
+use Rattle.block.specs.Looking.{causeNumbers, noBad, counted}
+use Rattle.block.specs.Claim.{LostTold, sumOf, spareBad}
 use Rattle.file.specs.declared.Loaded.{Loaded}
 use Rattle.file.specs.declared.FileAnswer.the-variants.{Accepted}
 use Rattle.file.specs.File.{dataBytes}
@@ -21,7 +25,7 @@ use Rattle.wear.specs.declared.Spot.{Spot}
 use Rattle.wear.specs.declared.Totals.{Totals}
 use Rattle.wear.specs.declared.Trial.the-variants.{Header, Data}
 use Rattle.wear.specs.Walk.{blockOf, spot, beginning, Block, stepFrom, thenBlocks, walkFor, blocksFrom, blocks}
-use Rattle.wear.specs.Report.{countOf, total, oneOf, twoOf, lostOf, withBlocks, withPulses, reportStrip}
+use Rattle.wear.specs.Report.{countOf, total, oneOf, twoOf, lostOf, badOf, withBlocks, withPulses, reportStrip}
 
 -- ---- Words for the claims
 
@@ -94,3 +98,20 @@ pub record Walks : Type 0 where
   pub totals : (steps : ℕ) (t : Totals) (strips : List (List Class)) → reportInSteps steps t strips ≡ reportStrips t strips
   -- What a strip adds to a total of places is at most 8,193 for each of its pulses.
   pub bounded : (cs : List Class) → (total oneOf (blocks cs) ≤ 8193 * length cs) × (total twoOf (blocks cs) ≤ 8193 * length cs) × (total lostOf (blocks cs) ≤ 8193 * length cs)
+
+-- ---- The claims of causes (document 02, Q-6)
+
+pub record WalksCauses : Type 0 where
+  -- After refusal 4 no bad byte is counted.
+  pub short : (cs : List Class) (at : Spot) (b : Block) → stepFrom cs at ≡ accepted b → isCut (b .outcome) ≡ true → b .tally .bad ≡ noBad
+  -- Else the eleven counts are together all bad bytes: a lost place counts twice, one taken from copy two once, and one taken from copy one where copy
+  -- two's byte is bad.
+  pub counts : (cs : List Class) (at : Spot) (b : Block) → stepFrom cs at ≡ accepted b → isCut (b .outcome) ≡ false
+      → sumOf (causeNumbers (b .tally .bad)) ≡ 2 * b .tally .lost + b .tally .two + spareBad cs (b .start) (copyTwo (b .start) (b .n)) (b .n)
+  -- A block that is refused with 6 is told with the causes of the two bytes at its place, and with no other refusal there are causes.
+  pub lost : (cs : List Class) (at : Spot) (b : Block) (why : Why) → stepFrom cs at ≡ accepted b → b .outcome ≡ refused why → why .number ≡ 6
+      → LostTold cs (at .from) (b .n) why
+  pub others : (cs : List Class) (at : Spot) (b : Block) (why : Why) → stepFrom cs at ≡ accepted b → b .outcome ≡ refused why → (why .number ≡ 6 → ⊥)
+      → why .causes ≡ none
+  -- What a strip adds to a total of bad bytes is at most 16,386 for each of its pulses.
+  pub bounded : (cs : List Class) (cause : ℕ) → total (badOf cause) (blocks cs) ≤ 16386 * length cs

@@ -1,6 +1,6 @@
 -- The report over many strips (document 02, Q-1).
 use Prim.Native.Nat.{ℕ, _+_}
-use mathlib.Core.Bool.{Bool, cond, _||_}
+use mathlib.Core.Bool.{Bool, false, cond, _||_}
 use mathlib.Core.List.{List, [], _∷_}
 use lib.Dec.{leb, ltb}
 use lib.ListN.{length}
@@ -9,6 +9,7 @@ use Rattle.refusal.specs.Outcome.{Outcome, accepted, refuse, refusedWith}
 use Rattle.pulse.specs.declared.Class.{Class}
 use Rattle.pulse.specs.declared.Class.the-variants.{Short, Medium, Long, Noise}
 use Rattle.pulse.specs.Pulse.{same}
+use Rattle.block.specs.Looking.{eachCause, causeNumbers, forCause}
 use Rattle.wear.specs.declared.Totals.{Totals}
 use Rattle.wear.specs.declared.ReportAnswer.{ReportAnswer}
 use Rattle.wear.specs.declared.ReportAnswer.the-variants.{Accepted, Refused}
@@ -34,7 +35,11 @@ twoOf b = b .tally .two
 abbrev pub lostOf : Block → ℕ
 lostOf b = b .tally .lost
 
--- the totals with the places of some blocks added
+-- bytes that are bad for a cause
+abbrev pub badOf : (cause : ℕ) → Block → ℕ
+badOf cause b = forCause cause (b .tally .bad)
+
+-- the totals with the places of some blocks added, and their bad bytes
 abbrev pub withBlocks : List Block → Totals → Totals
 withBlocks bs t = record {
   strips = t .strips;
@@ -45,6 +50,7 @@ withBlocks bs t = record {
   one = t .one + total oneOf bs;
   two = t .two + total twoOf bs;
   lost = t .lost + total lostOf bs;
+  bad = eachCause (λ cause. forCause cause (t .bad) + total (badOf cause) bs);
 }
 
 -- the totals with a strip and its pulses added
@@ -58,9 +64,10 @@ withPulses cs t = record {
   one = t .one;
   two = t .two;
   lost = t .lost;
+  bad = t .bad;
 }
 
--- the totals with a strip added: the strip, its pulses of each class, and the places of all blocks of its walk
+-- the totals with a strip added: the strip, its pulses of each class, and the places and the bad bytes of all blocks of its walk
 unfoldable pub added : Totals → (cs : List Class) → Totals
 added t cs = withBlocks (blocks cs) (withPulses cs t)
 
@@ -68,12 +75,17 @@ added t cs = withBlocks (blocks cs) (withPulses cs t)
 abbrev pub isAbove : ℕ → Bool
 isAbove n = ltb 1000000000000 n
 
+unfoldable pub anyAbove : List ℕ → Bool
+anyAbove [] = false
+anyAbove (n ∷ ns) = isAbove n || anyAbove ns
+
 -- 1,000 strips or more, or one total above that
 abbrev pub isFull : Totals → Bool
 isFull t =
     leb 1000 (t .strips)
     || (isAbove (t .shorts) || isAbove (t .mediums) || isAbove (t .longs) || isAbove (t .noises))
     || (isAbove (t .one) || isAbove (t .two) || isAbove (t .lost))
+    || anyAbove (causeNumbers (t .bad))
 
 -- refusal 1 where the totals are full or the strip has over 1,048,576 pulses
 unfoldable pub reportStrip : Totals → (cs : List Class) → Outcome Totals

@@ -59,7 +59,7 @@ nextSpot trial p (accepted b) = spot (b .extent .end) (afterBlock trial (b .payl
 
 -- ---- One step
 
--- a block that was found: the payload bytes tried, the start, what the rules answer, the three counts, and where the walk goes on
+-- a block that was found: the payload bytes tried, the start, what the rules answer, its places and bad bytes, and where the walk goes on
 pub record Block : Type 0 where
   pub n : ℕ
   pub start : ℕ

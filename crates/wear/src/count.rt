@@ -2,6 +2,7 @@
 use super::Spot;
 use super::Step;
 use super::Trial;
+use block::ByCause;
 use block::Tally;
 use pulse::Cycles;
 use pulse::Thresholds;
@@ -10,7 +11,7 @@ ghost use mathlib.Core.Path.{_≡_};
 ghost use lib.ListN.{length};
 ghost use Rattle.pulse.specs.Pulse.{fixed, classes};
 ghost use Rattle.wear.specs.Walk.{blocks};
-ghost use Rattle.wear.specs.private.Counts.{pulsesOf, placesOf};
+ghost use Rattle.wear.specs.private.Counts.{pulsesOf, placesOf, bothBad, BothFit};
 
 // The pulses of each class.
 pub struct Pulses {
@@ -48,7 +49,7 @@ pub fn count_classes(strip: &[u32]) -> Pulses
     }
 }
 
-// Counts the places of all blocks of the walk, step by step.
+// Counts the places of all blocks of the walk, and their bad bytes, step by step.
 pub fn count_places(strip: &[u32]) -> Tally
     requires { ⌜ length (now strip) ≤ 1048576 ⌝ }
     ensures { λ r. ⌜ r ≡ placesOf (blocks (classes fixed (now (strip .entry)))) ⌝ }
@@ -56,6 +57,7 @@ pub fn count_places(strip: &[u32]) -> Tally
     let mut one: usize = 0;
     let mut two: usize = 0;
     let mut lost: usize = 0;
+    let mut bad = ByCause::none();
     let mut at = Spot {
         from: 0,
         trial: Trial::Header,
@@ -63,15 +65,41 @@ pub fn count_places(strip: &[u32]) -> Tally
     loop {
         match super::step_from(strip, at) {
             Step::Refused(_) => {
-                return Tally { one, two, lost };
+                return Tally {
+                    one,
+                    two,
+                    lost,
+                    bad,
+                };
             }
             Step::Found(b) => {
                 let tally = b.tally;
                 one = one + tally.one;
                 two = two + tally.two;
                 lost = lost + tally.lost;
+                bad = add_bad(bad, tally.bad);
                 at = b.next;
             }
         }
+    }
+}
+
+// The bad bytes of both.
+pub fn add_bad(a: ByCause, b: ByCause) -> ByCause
+    requires { ⌜ BothFit a b ⌝ }
+    ensures { λ r. ⌜ r ≡ bothBad a b ⌝ }
+{
+    ByCause {
+        marker: a.marker + b.marker,
+        bit0: a.bit0 + b.bit0,
+        bit1: a.bit1 + b.bit1,
+        bit2: a.bit2 + b.bit2,
+        bit3: a.bit3 + b.bit3,
+        bit4: a.bit4 + b.bit4,
+        bit5: a.bit5 + b.bit5,
+        bit6: a.bit6 + b.bit6,
+        bit7: a.bit7 + b.bit7,
+        parity: a.parity + b.parity,
+        ones: a.ones + b.ones,
     }
 }

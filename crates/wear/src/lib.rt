@@ -3,6 +3,7 @@ mod count;
 mod walk;
 
 use block::BlockAnswer;
+use block::ByCause;
 use block::Tally;
 use count::Pulses;
 use refusal::Reason;
@@ -10,7 +11,8 @@ use refusal::Refusal;
 ghost use mathlib.Core.Path.{_≡_};
 ghost use Rattle.pulse.specs.Pulse.{fixed, classes};
 ghost use Rattle.wear.specs.Walk.{stepFrom, stepAnswer};
-ghost use Rattle.wear.specs.Report.{isAbove, isFull, reportStrip, reportAnswer};
+ghost use Rattle.block.specs.Looking.{causeNumbers};
+ghost use Rattle.wear.specs.Report.{isAbove, anyAbove, isFull, reportStrip, reportAnswer};
 ghost use Rattle.wear.specs.private.Counts.{sums, SumsFit};
 
 // What is tried at the next start: a header, which has 192 bytes, or the data block of a header that was read, with so many bytes. A data block
@@ -26,8 +28,8 @@ pub struct Spot {
     pub trial: Trial,
 }
 
-// A block that a walk found: how many payload bytes were tried, where it starts, what the rules answer, where its values come from, and where
-// the walk goes on. A refusal names block 1 where a data block was tried.
+// A block that a walk found: how many payload bytes were tried, where it starts, what the rules answer, where its values come from, its bad
+// bytes, and where the walk goes on. A refusal names block 1 where a data block was tried.
 pub struct Tried {
     pub n: usize,
     pub start: usize,
@@ -72,8 +74,8 @@ pub fn step_from(strip: &[u32], at: Spot) -> Step
 
 // ---- The report
 
-// How many strips were reported, the pulses of each class on them, and the places of their blocks: taken from copy one, taken from copy two,
-// lost. All are 0 to begin with.
+// How many strips were reported, the pulses of each class on them, and of their blocks the places taken from copy one, taken from copy two, and
+// lost, and the bad bytes. All are 0 to begin with.
 pub struct Totals {
     pub strips: u64,
     pub shorts: u64,
@@ -83,6 +85,7 @@ pub struct Totals {
     pub one: u64,
     pub two: u64,
     pub lost: u64,
+    pub bad: ByCause,
 }
 
 // What the report answers. The totals handed in stay as they are where it refuses.
@@ -98,7 +101,7 @@ const MOST_PULSES: usize = 1_048_576;
 const MOST_TOTAL: u64 = 1_000_000_000_000;
 
 // Adds a strip to the totals. It refuses where these count 1,000 strips or more or one of them is above 1,000,000,000,000, and a strip of over
-// 1,048,576 pulses. A strip adds at most 1,048,576 to the count of a class, and at most 8,193 places for each of its pulses.
+// 1,048,576 pulses. A strip adds at most 1,048,576 to the count of a class, and at most 8,193 places, with 16,386 bytes, for each of its pulses.
 pub fn report(totals: Totals, strip: &[u32]) -> ReportAnswer
     ensures { λ r. ⌜ reportAnswer r ≡ reportStrip totals (classes fixed (now (strip .entry))) ⌝ }
 {
@@ -110,7 +113,7 @@ pub fn report(totals: Totals, strip: &[u32]) -> ReportAnswer
     ReportAnswer::Accepted(add_strip(totals, pulses, places))
 }
 
-// The totals with one strip more, its pulses and its places.
+// The totals with one strip more, its pulses, its places and its bad bytes.
 fn add_strip(t: Totals, pulses: Pulses, places: Tally) -> Totals
     requires { ⌜ SumsFit t pulses places ⌝ }
     ensures { λ r. ⌜ r ≡ sums t pulses places ⌝ }
@@ -124,6 +127,7 @@ fn add_strip(t: Totals, pulses: Pulses, places: Tally) -> Totals
         one: t.one + places.one as u64,
         two: t.two + places.two as u64,
         lost: t.lost + places.lost as u64,
+        bad: count::add_bad(t.bad, places.bad),
     }
 }
 
@@ -133,7 +137,16 @@ fn is_full(t: Totals) -> bool
 {
     let classes = above(t.shorts) | above(t.mediums) | above(t.longs) | above(t.noises);
     let places = above(t.one) | above(t.two) | above(t.lost);
-    (MOST_STRIPS <= t.strips) | classes | places
+    (MOST_STRIPS <= t.strips) | classes | places | any_above(t.bad)
+}
+
+// Whether one of the totals of bad bytes is above the limit.
+fn any_above(bad: ByCause) -> bool
+    ensures { λ r. ⌜ r ≡ anyAbove (causeNumbers bad) ⌝ }
+{
+    let high = above(bad.bit6) | (above(bad.bit7) | (above(bad.parity) | above(bad.ones)));
+    let middle = above(bad.bit2) | (above(bad.bit3) | (above(bad.bit4) | (above(bad.bit5) | high)));
+    above(bad.marker) | (above(bad.bit0) | (above(bad.bit1) | middle))
 }
 
 fn above(total: u64) -> bool

@@ -152,6 +152,6 @@ fn value_of(read: PlaceRead) -> u8
     match read {
         PlaceRead::One(value) => value,
         PlaceRead::Two(value) => value,
-        PlaceRead::Neither => 0,
+        PlaceRead::Neither(_) => 0,
     }
 }

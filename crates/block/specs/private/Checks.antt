@@ -4,16 +4,39 @@ use mathlib.Core.Path.{_≡_}
 use mathlib.Core.Bool.{Bool, true, false}
 use mathlib.Core.List.{List}
 use mathlib.Core.Option.{Option, none, some}
+use lib.Dec.{eqb}
 use Rattle.lists.specs.Places.{firstFrom}
+use Rattle.refusal.specs.declared.Causes.{Causes}
 use Rattle.refusal.specs.declared.Reason.the-variants.{LostByte, WrongChecksum}
 use Rattle.refusal.specs.Outcome.{Outcome, accepted, refuse}
 use Rattle.pulse.specs.declared.Class.{Class}
+use Rattle.byte.specs.declared.FrameRead.{FrameRead}
+use Rattle.byte.specs.declared.FrameRead.the-variants.{Value, None}
 use Rattle.block.specs.declared.Extent.{Extent}
+use Rattle.block.specs.declared.rules.Source.{Source}
+use Rattle.block.specs.declared.rules.Source.the-variants.{One, Two, Neither}
 use Rattle.block.specs.declared.rules.Check.{Check}
 use Rattle.block.specs.declared.rules.Check.the-variants.{Sound, LostAt, WrongSum}
-use Rattle.block.specs.Reading.{isLost, sumHolds, placeAt}
+use Rattle.block.specs.Reading.{Place, FromOne, FromTwo, Lost, isLost, sumHolds, placeAt}
 use Rattle.block.specs.Looking.{isFromTwo, placesFrom}
 use Rattle.block.specs.private.Flags.{flagAt, groupOf}
+
+-- where the value of a place comes from, without the causes of one that is lost
+abbrev pub sourceOf : Place → Source
+sourceOf (FromOne v) = One v
+sourceOf (FromTwo v) = Two v
+sourceOf (Lost causes) = Neither
+
+-- the same, by the values of both copies
+abbrev pub sourceIn : (one two : FrameRead) → Source
+sourceIn (Value v) two = One v
+sourceIn None (Value v) = Two v
+sourceIn None None = Neither
+
+-- a frame has this value
+abbrev pub hasValue : ℕ → FrameRead → Bool
+hasValue v (Value w) = eqb w v
+hasValue v None = false
 
 -- the first lost place, if there is one; else whether the checksum holds, with the number of repaired places
 abbrev pub checkOf : Option ℕ → Bool → (repaired : ℕ) → Check
@@ -21,11 +44,15 @@ checkOf (some place) holds repaired = LostAt place
 checkOf none true repaired = Sound repaired
 checkOf none false repaired = WrongSum
 
--- what that comes to, for a block that stands there
-abbrev pub checkAnswer : Check → Extent → Outcome Extent
-checkAnswer (LostAt place) extent = refuse LostByte place
-checkAnswer WrongSum extent = refuse WrongChecksum (extent .n)
-checkAnswer (Sound repaired) extent = accepted extent
+-- what that comes to, for a block that stands there, with the causes of its places
+abbrev pub checkAnswer : (causes : ℕ → Causes) → Check → Extent → Outcome Extent
+checkAnswer causes (LostAt place) extent = refuse (LostByte (causes place)) place
+checkAnswer causes WrongSum extent = refuse WrongChecksum (extent .n)
+checkAnswer causes (Sound repaired) extent = accepted extent
+
+-- a place that is told as lost is one
+abbrev pub LostThere : (cs : List Class) (one two n : ℕ) → Check → Type 0
+LostThere cs one two n check = (i : ℕ) → check ≡ LostAt i → (i ≤ n) × (isLost cs one two i ≡ true)
 
 -- ---- What is kept: the number of repaired places, and a flag for each group that has one
 

@@ -8,8 +8,8 @@ use Rattle.pulse.specs.declared.Class.{Class}
 use Rattle.pulse.specs.declared.Class.the-variants.{Short, Medium, Long, Noise}
 use Rattle.pulse.specs.Pulse.{cycles}
 use Rattle.byte.specs.declared.decoder.Bounds.{Bounds}
-use Rattle.byte.specs.declared.ByteRead.{ByteRead}
-use Rattle.byte.specs.declared.ByteRead.the-variants.{Good, Bad}
+use Rattle.byte.specs.declared.FrameRead.{FrameRead}
+use Rattle.byte.specs.declared.FrameRead.the-variants.{Value, None}
 use Rattle.byte.specs.Byte.{isOdd, parityBit}
 
 -- the distances of the thresholds; long, if it lies below medium, is as far as medium
@@ -30,13 +30,13 @@ classIn b pulse =
     (cond (ltb (distanceOf b pulse) (b .medium .0)) Short Medium)
     (cond (ltb (distanceOf b pulse) (b .noise .0)) Long Noise)
 
--- the byte by its word and whether all is sound that the word does not show: its first half has the value and then the parity bit
-unfoldable pub closed : (word : ℕ) (sound : Bool) → ByteRead
+-- the value by the word and whether all is sound that the word does not show: its first half has the value and then the parity bit
+unfoldable pub closed : (word : ℕ) (sound : Bool) → FrameRead
 closed word sound =
     let first = word % 65536 / 2 in
     let second = word / 65536 / 2 in
     let value = first % 256 in
-    cond ((eqb (first + second) 511 && isOdd (ones value + first / 256)) && sound) (Good value) Bad
+    cond ((eqb (first + second) 511 && isOdd (ones value + first / 256)) && sound) (Value value) None
 
 -- ---- A byte whose value is known: what `pair_fits` looks for
 

@@ -24,15 +24,28 @@ above-requires-6 c κs = search needs
 above-requires-7 : tie.Need-above-requires-7
 above-requires-7 c κs = search needs
 
+any-above-requires : tie.Need-any-above-requires
+any-above-requires c κs = search needs
+
 returns : tie.Need-returns
 returns c =
-    let sixth = c .before .before in
+    let seventh = c .before .before in
+    let sixth = seventh .before in
     let fifth = sixth .before in
     let fourth = fifth .before in
     let third = fourth .before in
     let second = third .before in
     let first = second .before in
-    rw (first .above .ensures, second .above2 .ensures, third .above3 .ensures, fourth .above4 .ensures, fifth .above5 .ensures, sixth .above6 .ensures, c .before .above7 .ensures)
+    rw (
+      first .above .ensures,
+      second .above2 .ensures,
+      third .above3 .ensures,
+      fourth .above4 .ensures,
+      fifth .above5 .ensures,
+      sixth .above6 .ensures,
+      seventh .above7 .ensures,
+      c .any-above .ensures,
+    )
 
 pub is-full-spec : {M : Type 1} → statement M
 is-full-spec =
@@ -45,4 +58,5 @@ is-full-spec =
     above-requires-5
     above-requires-6
     above-requires-7
+    any-above-requires
     returns)

@@ -2,6 +2,7 @@
 use borrow.Author.Needs.{needs}
 use Rattle.block.proofs.looking.answer_of.Statement.{statement}
 use Rattle.block.proofs.looking.answer_of.Tie as tie
+use native.Mathlib.Omega.{arith}
 
 enum-known-miscounted : tie.Need-enum-known-miscounted
 enum-known-miscounted c = search needs
@@ -18,23 +19,28 @@ enum-told c = search needs
 enum-known-check : tie.Need-enum-known-check
 enum-known-check c = search needs
 
-refused-requires-2 : tie.Need-refused-requires-2
-refused-requires-2 c κs = search needs
+lost-at-requires : tie.Need-lost-at-requires
+lost-at-requires c κs =
+    let check = c .before in
+    let start = check .before .before .before .before .before in
+    let lost = start .pre .2 _ (check .check .given .1) in
+    let l = lost .0 in
+    (start .pre .0, omega arith, lost .1)
 
 enum-told-2 : tie.Need-enum-told-2
 enum-told-2 c = search needs
 
-refused-requires-3 : tie.Need-refused-requires-3
-refused-requires-3 c κs = search needs
+refused-requires-2 : tie.Need-refused-requires-2
+refused-requires-2 c κs = search needs
 
 enum-told-3 : tie.Need-enum-told-3
 enum-told-3 c = search needs
 
 returns-2 : tie.Need-returns-2
-returns-2 c = let check = c .before .before in rw (c .refused2 .ensures, check .before .before .enum-told .given .1, check .check .given .1)
+returns-2 c = let check = c .before .before in rw (c .lost-at .ensures, check .before .before .enum-told .given .1, check .check .given .1)
 
 returns-3 : tie.Need-returns-3
-returns-3 c = let check = c .before in rw (c .refused3 .ensures, check .before .before .enum-told .given .1, check .enum-told2 .given .1)
+returns-3 c = let check = c .before in rw (c .refused2 .ensures, check .before .before .enum-told .given .1, check .enum-told2 .given .1)
 
 returns-4 : tie.Need-returns-4
 returns-4 c = rw (c .before .before .enum-told .given .1, c .enum-told3 .given .1)
@@ -48,9 +54,9 @@ answer-of-spec =
     returns
     enum-told
     enum-known-check
-    refused-requires-2
+    lost-at-requires
     enum-told-2
-    refused-requires-3
+    refused-requires-2
     enum-told-3
     returns-2
     returns-3

@@ -1,6 +1,8 @@
 -- `block::looking::look_copies` meets its contract: the answer and the counts, by what its parts found.
+use native.Mathlib.Omega.{arith}
 use denote.Ref.{now}
 use Rattle.pulse.specs.Pulse.{classes}
+use Rattle.block.proofs.Answers.{check-there}
 use Rattle.block.proofs.Looks.{look-copied}
 use borrow.Author.Needs.{needs}
 use Rattle.block.proofs.looking.look_copies.Statement.{statement}
@@ -13,7 +15,14 @@ count-places-requires : tie.Need-count-places-requires
 count-places-requires c κs = search needs
 
 answer-of-requires : tie.Need-answer-of-requires
-answer-of-requires c κs = search needs
+answer-of-requires c κs =
+    let count-places = c .before in
+    let start = count-places .before .before .before in
+    let args = start .args in (
+      omega arith,
+      omega arith,
+      check-there (classes (args .t) (now (args .strip))) (args .copies .one) (args .copies .two) (args .n) _ _ (count-places .count-places .ensures .1),
+    )
 
 returns : tie.Need-returns
 returns c =

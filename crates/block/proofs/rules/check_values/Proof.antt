@@ -2,11 +2,13 @@
 -- of all, and the count and the flags are those of the places so far.
 use Prim.Native.Nat.{_+_, _-_}
 use native.Mathlib.Omega.{arith}
-use mathlib.Core.Path.{sym, ap, _∙_}
+use mathlib.Core.Path.{sym, _∙_}
 use mathlib.Core.Logic.{⊎-elim}
 use borrow.Author.Needs.{needs}
+use denote.Ref.{now}
 use Rattle.pulse.specs.Pulse.{classes}
-use Rattle.block.specs.Looking.{placeRead}
+use Rattle.block.specs.Reading.{placeAt}
+use Rattle.block.proofs.SourceLaws.{source-one, source-two, source-lost}
 use Rattle.block.proofs.Checking.{Checking, checking-begun, checkValues-lost, checkValues-sound, checkValues-wrongSum, checking-few, checking-one, checking-two}
 use Rattle.block.proofs.rules.check_values.Statement.{statement}
 use Rattle.block.proofs.rules.check_values.Tie as tie
@@ -45,7 +47,9 @@ returns : tie.Need-returns Inv-loop μ-loop
 returns c =
     let read-place = c .before .before in
     let test = read-place .before in
-    checkValues-lost (test .before .loop .inv) (test .loop-test .taken) (sym (read-place .read-place .ensures) ∙ ap placeRead (c .enum-told .given .1))
+    let args = test .before .before .before .before .args in
+    let place = placeAt (classes (args .t) (now (args .strip))) (args .one) (args .two) (test .before .loop .i) in
+    checkValues-lost (test .before .loop .inv) (test .loop-test .taken) (source-lost place (sym (read-place .read-place .ensures) ∙ c .enum-told .given .1))
 
 add-i : tie.Need-add-i Inv-loop μ-loop
 add-i c = search needs
@@ -61,8 +65,8 @@ loop-again c =
     let h = test .loop-test .taken in
     let e = sym (read-place .read-place .ensures) in
     ⊎-elim
-    (λ w. checking-one inv h (w .4) (e ∙ ap placeRead (w .1 .given .1)) (w .3) (w .5))
-    (λ w. checking-two inv h (w .8) (test .before .before .before .before .pre .2) (e ∙ ap placeRead (w .1 .given .1)) (w .7 ∙ w .4 .ensures) (w .9))
+    (λ w. checking-one inv h (w .4) (source-one _ (e ∙ w .1 .given .1)) (w .3) (w .5))
+    (λ w. checking-two inv h (w .8) (test .before .before .before .before .pre .2) (source-two _ (e ∙ w .1 .given .1)) (w .7 ∙ w .4 .ensures) (w .9))
     (c .match .came)
 
 same-length-2 : tie.Need-same-length-2 Inv-loop μ-loop

@@ -4,7 +4,7 @@ use native.Mathlib.Omega.{arith}
 use mathlib.Core.Path.{sym, ap, _∙_}
 use denote.Ref.{now}
 use lib.Dec.{lit<}
-use Rattle.byte.specs.Byte.{isGood}
+use Rattle.block.specs.private.Checks.{hasValue}
 use Rattle.byte.proofs.ByteLaws.{readFrame-part}
 use Rattle.block.proofs.Countdowns.{row-at, isCounted-one, isCounted-two}
 use borrow.Author.Needs.{needs}
@@ -48,7 +48,8 @@ returns : tie.Need-returns
 returns c =
     let args = c .before .before .before .before .before .args in
     let frame = readFrame-part (args .t) (now (args .strip)) (args .one + 20 * args .i) (omega arith) in
-    isCounted-one _ _ _ _ _ (row-at 0 (lit< tt) (args .i) (omega arith)) (ap (isGood _) (sym frame) ∙ sym (c .before .holds .ensures) ∙ c .if1 .taken)
+    isCounted-one _ _ _ _ _ (row-at 0 (lit< tt) (args .i) (omega arith))
+    (ap (hasValue _) (sym frame) ∙ sym (c .before .holds .ensures) ∙ c .if1 .taken)
 
 add-holds-4 : tie.Need-add-holds-4
 add-holds-4 c = search needs
@@ -87,7 +88,7 @@ returns-2 c =
     let one = readFrame-part (args .t) (now (args .strip)) (args .one + 20 * args .i) (omega arith) in
     let two = readFrame-part (args .t) (now (args .strip)) (args .two + 20 * args .i) (omega arith) in
     isCounted-two _ _ _ _ _ _ (row-at 0 (lit< tt) (args .i) (omega arith)) (row-at 1 (lit< tt) (args .i) (omega arith))
-    (ap (isGood _) (sym one) ∙ sym (test .before .holds .ensures) ∙ test .if1 .left) (c .holds2 .ensures ∙ ap (isGood _) two)
+    (ap (hasValue _) (sym one) ∙ sym (test .before .holds .ensures) ∙ test .if1 .left) (c .holds2 .ensures ∙ ap (hasValue _) two)
 
 pub is-counted-spec : {M : Type 1} → statement M
 is-counted-spec =

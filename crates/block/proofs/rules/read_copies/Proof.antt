@@ -1,7 +1,9 @@
 -- `block::rules::read_copies` meets its contract: each answer is the outcome's, by what the parts of the reader found.
+use native.Mathlib.Omega.{arith}
 use borrow.Author.Needs.{needs}
 use denote.Ref.{now}
-use Rattle.block.proofs.Answers.{readCopies-wrongCountdown, readCopies-lostByte, readCopies-wrongChecksum, check-passed, readCopies-accepted}
+use Rattle.pulse.specs.Pulse.{classes}
+use Rattle.block.proofs.Answers.{check-there, readCopies-wrongCountdown, readCopies-lostByte, readCopies-wrongChecksum, check-passed, readCopies-accepted}
 use Rattle.block.proofs.rules.read_copies.Statement.{statement}
 use Rattle.block.proofs.rules.read_copies.Tie as tie
 
@@ -34,14 +36,22 @@ check-values-requires c κs = search needs
 enum-known-i-2 : tie.Need-enum-known-i-2
 enum-known-i-2 c = search needs
 
-refused-requires-2 : tie.Need-refused-requires-2
-refused-requires-2 c κs = search needs
+lost-at-requires : tie.Need-lost-at-requires
+lost-at-requires c κs =
+    let lost = c .before in
+    let check-values = lost .before .before .before in
+    let start = check-values .before .before .before .before .before .before .before in
+    let args = start .args in
+    let checked = check-values .check-values .ensures in
+    let there = check-there (classes (args .t) (now (args .strip))) (args .copies .one) (args .copies .two) (args .n) _ _ (checked .says) _ (lost .i2 .given .1) in
+    let l = there .0 in
+    (omega arith, omega arith, there .1)
 
 enum-told-2 : tie.Need-enum-told-2
 enum-told-2 c = search needs
 
-refused-requires-3 : tie.Need-refused-requires-3
-refused-requires-3 c κs = search needs
+refused-requires-2 : tie.Need-refused-requires-2
+refused-requires-2 c κs = search needs
 
 enum-known-repaired : tie.Need-enum-known-repaired
 enum-known-repaired c = search needs
@@ -63,7 +73,7 @@ returns-2 c =
     let start = first-miscounted .before .before .before in
     let args = start .args in
     readCopies-lostByte (args .t) (now (args .strip)) (args .copies .one) (args .n) (now (args .out)) (start .pre .0 .0) (first-miscounted .first-miscounted .ensures) (counted .enum-told .given .1)
-    (check-values .check-values .ensures) (lost .i2 .given .1) (c .refused2 .ensures)
+    (check-values .check-values .ensures) (lost .i2 .given .1) (c .lost-at .ensures)
 
 returns-3 : tie.Need-returns-3
 returns-3 c =
@@ -74,7 +84,7 @@ returns-3 c =
     let start = first-miscounted .before .before .before in
     let args = start .args in
     readCopies-wrongChecksum (args .t) (now (args .strip)) (args .copies .one) (args .n) (now (args .out)) (start .pre .0 .0) (first-miscounted .first-miscounted .ensures) (counted .enum-told .given .1)
-    (check-values .check-values .ensures) (wrong .enum-told2 .given .1) (c .refused3 .ensures)
+    (check-values .check-values .ensures) (wrong .enum-told2 .given .1) (c .refused2 .ensures)
 
 same-length : tie.Need-same-length
 same-length c = search needs
@@ -103,9 +113,9 @@ read-copies-spec =
     slice-aggregate-check-values
     check-values-requires
     enum-known-i-2
-    refused-requires-2
+    lost-at-requires
     enum-told-2
-    refused-requires-3
+    refused-requires-2
     enum-known-repaired
     slice-aggregate-fill-values
     fill-values-requires

@@ -1,13 +1,14 @@
--- `block::rules::read_place` meets its contract: the bytes of both copies decide which case of `placeOf` it is.
+-- `block::rules::read_place` meets its contract: the values of both copies decide which case of `sourceIn` it is.
 use Prim.Native.Nat.{_+_, _*_}
 use native.Mathlib.Omega.{arith}
-use mathlib.Core.Path.{sym, ap, _∙_}
+use mathlib.Core.Path.{sym, ap, ap₂, _∙_}
 use denote.Ref.{now}
 use borrow.Author.Needs.{needs}
 use Rattle.pulse.specs.Pulse.{classes}
-use Rattle.byte.specs.Byte.{isBad}
+use Rattle.byte.specs.Byte.{valueIn, byteAt}
 use Rattle.byte.proofs.ByteLaws.{readFrame-part}
-use Rattle.block.proofs.ReadingLaws.{placeAt-one, placeAt-two, placeAt-lost}
+use Rattle.block.specs.private.Checks.{sourceIn}
+use Rattle.block.proofs.SourceLaws.{source-at}
 use Rattle.block.proofs.rules.read_place.Statement.{statement}
 use Rattle.block.proofs.rules.read_place.Tie as tie
 
@@ -87,8 +88,8 @@ returns c =
     let at = 20 * (9 + args .i) in
     let one = readFrame-part (args .t) (now (args .strip)) (args .one + at) (omega arith) in
     let two = readFrame-part (args .t) (now (args .strip)) (args .two + at) (omega arith) in
-    sym (placeAt-lost cs (args .one) (args .two) (args .i) (ap isBad (sym one ∙ sym (first .read-frame .ensures) ∙ arm .enum-told .given .1))
-    (ap isBad (sym two ∙ sym (second .read-frame2 .ensures) ∙ c .enum-told2 .given .1)))
+    ap₂ sourceIn (sym (arm .enum-told .given .1) ∙ first .read-frame .ensures ∙ one) (sym (c .enum-told2 .given .1) ∙ second .read-frame2 .ensures ∙ two)
+    ∙ source-at cs (args .one) (args .two) (args .i)
 
 returns-2 : tie.Need-returns-2
 returns-2 c =
@@ -100,8 +101,8 @@ returns-2 c =
     let at = 20 * (9 + args .i) in
     let one = readFrame-part (args .t) (now (args .strip)) (args .one + at) (omega arith) in
     let two = readFrame-part (args .t) (now (args .strip)) (args .two + at) (omega arith) in
-    sym (placeAt-two cs (args .one) (args .two) (args .i) _ (ap isBad (sym one ∙ sym (first .read-frame .ensures) ∙ arm .enum-told .given .1))
-    (sym two ∙ sym (second .read-frame2 .ensures) ∙ c .before .second .given .1))
+    ap₂ sourceIn (sym (arm .enum-told .given .1) ∙ first .read-frame .ensures ∙ one) (sym (c .before .second .given .1) ∙ second .read-frame2 .ensures ∙ two)
+    ∙ source-at cs (args .one) (args .two) (args .i)
 
 returns-3 : tie.Need-returns-3
 returns-3 c =
@@ -110,7 +111,8 @@ returns-3 c =
     let cs = classes (args .t) (now (args .strip)) in
     let at = 20 * (9 + args .i) in
     let one = readFrame-part (args .t) (now (args .strip)) (args .one + at) (omega arith) in
-    sym (placeAt-one cs (args .one) (args .two) (args .i) _ (sym one ∙ sym (first .read-frame .ensures) ∙ c .before .first .given .1))
+    ap (λ r. sourceIn r (valueIn (byteAt cs (args .two + at)))) (sym (c .before .first .given .1) ∙ first .read-frame .ensures ∙ one)
+    ∙ source-at cs (args .one) (args .two) (args .i)
 
 pub read-place-spec : {M : Type 1} → statement M
 read-place-spec =

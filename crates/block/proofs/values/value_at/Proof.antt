@@ -4,7 +4,10 @@ use native.Mathlib.Omega.{arith}
 use mathlib.Core.Path.{sym, _∙_}
 use borrow.Author.Needs.{needs}
 use denote.Ref.{now}
+use Rattle.pulse.specs.Pulse.{classes}
+use Rattle.byte.specs.Byte.{byteAt}
 use Rattle.byte.proofs.ByteLaws.{readFrame-part}
+use Rattle.byte.proofs.CauseLaws.{valueIn-none, valueIn-good}
 use Rattle.block.proofs.Filling.{value-one, value-two}
 use Rattle.block.proofs.values.value_at.Statement.{statement}
 use Rattle.block.proofs.values.value_at.Tie as tie
@@ -60,7 +63,7 @@ returns c =
     let at = 20 * (9 + args .i) in
     let one = readFrame-part (args .t) (now (args .strip)) (args .one + at) (omega arith) in
     c .bits-at .ensures
-    ∙ value-two (args .t) (now (args .strip)) (args .one) (args .two) (args .i) (start .pre .2) (sym one ∙ sym (first .read-frame .ensures) ∙ arm .enum-told .given .1)
+    ∙ value-two (args .t) (now (args .strip)) (args .one) (args .two) (args .i) (start .pre .2) (valueIn-none (byteAt (classes (args .t) (now (args .strip))) (args .one + at)) (sym (arm .enum-told .given .1) ∙ first .read-frame .ensures ∙ one))
 
 returns-2 : tie.Need-returns-2
 returns-2 c =
@@ -68,7 +71,7 @@ returns-2 c =
     let args = first .before .before .before .args in
     let at = 20 * (9 + args .i) in
     let one = readFrame-part (args .t) (now (args .strip)) (args .one + at) (omega arith) in
-    value-one (args .t) (now (args .strip)) (args .one) (args .two) (args .i) (sym one ∙ sym (first .read-frame .ensures) ∙ c .before .value .given .1)
+    value-one (args .t) (now (args .strip)) (args .one) (args .two) (args .i) (sym (valueIn-good _ _ (sym (c .before .value .given .1) ∙ first .read-frame .ensures ∙ one)))
 
 pub value-at-spec : {M : Type 1} → statement M
 value-at-spec =

@@ -7,18 +7,21 @@ use denote.Ref.{now}
 use lib.ListN.{length, length-map}
 use Rattle.pulse.specs.Pulse.{classOf, fixed, classes}
 use Rattle.wear.specs.Walk.{triedBlock, stepAnswer}
-use Rattle.wear.proofs.Walking.{Walking, walking-begun, walking-next, walking-few, walking-on, walking-done}
+use Rattle.wear.proofs.Walking.{Walking, walking-begun, walking-next, walking-few, walking-fits, walking-on, walking-done}
 use Rattle.wear.proofs.count.count_places.Statement.{statement}
 use Rattle.wear.proofs.count.count_places.Tie as tie
 
 abbrev Inv-loop : tie.InvT-loop
-Inv-loop strip one₀ two₀ lost₀ at₀ one two lost at = Walking (classes fixed strip) one two lost at
+Inv-loop strip one₀ two₀ lost₀ bad₀ at₀ one two lost bad at = Walking (classes fixed strip) one two lost bad at
 
 abbrev μ-loop : tie.MeasureT-loop
-μ-loop strip one₀ two₀ lost₀ at₀ one two lost at = length strip - at .from
+μ-loop strip one₀ two₀ lost₀ bad₀ at₀ one two lost bad at = length strip - at .from
+
+none-requires : tie.Need-none-requires Inv-loop μ-loop
+none-requires c κs = search needs
 
 loop-holds : tie.Need-loop-holds Inv-loop μ-loop
-loop-holds c = walking-begun _
+loop-holds c = walking-begun _ (c .none .ensures)
 
 step-from-requires : tie.Need-step-from-requires Inv-loop μ-loop
 step-from-requires c κs = search needs
@@ -40,7 +43,7 @@ add-one c =
     let tried = c .before .before .before in
     let step-from = tried .before .before in
     let loop = step-from .before in
-    let start = loop .before .before in
+    let start = loop .before .before .before in
     let strip = start .args .strip .now in
     let b = triedBlock (tried .b .given .0 .0) in
     let e = sym (step-from .step-from .ensures) ∙ ap stepAnswer (tried .b .given .1) in
@@ -52,7 +55,7 @@ add-two c =
     let tried = c .before .before .before .before in
     let step-from = tried .before .before in
     let loop = step-from .before in
-    let start = loop .before .before in
+    let start = loop .before .before .before in
     let strip = start .args .strip .now in
     let b = triedBlock (tried .b .given .0 .0) in
     let e = sym (step-from .step-from .ensures) ∙ ap stepAnswer (tried .b .given .1) in
@@ -64,19 +67,30 @@ add-lost c =
     let tried = c .before .before .before .before .before in
     let step-from = tried .before .before in
     let loop = step-from .before in
-    let start = loop .before .before in
+    let start = loop .before .before .before in
     let strip = start .args .strip .now in
     let b = triedBlock (tried .b .given .0 .0) in
     let e = sym (step-from .step-from .ensures) ∙ ap stepAnswer (tried .b .given .1) in
     let few = walking-few (loop .loop .inv) b e (rw (length-map strip (classOf fixed)) (start .pre)) in
     record { fits = omega arith }
 
-loop-less : tie.Need-loop-less Inv-loop μ-loop
-loop-less c =
-    let tried = c .before .before .before .before .before .before in
+add-bad-requires : tie.Need-add-bad-requires Inv-loop μ-loop
+add-bad-requires c κs =
+    let tried = c .before .before .before .before .before in
     let step-from = tried .before .before in
     let loop = step-from .before in
-    let start = loop .before .before in
+    let start = loop .before .before .before in
+    let strip = start .args .strip .now in
+    let b = triedBlock (tried .b .given .0 .0) in
+    let e = sym (step-from .step-from .ensures) ∙ ap stepAnswer (tried .b .given .1) in
+    walking-fits (loop .loop .inv) b e (rw (length-map strip (classOf fixed)) (start .pre))
+
+loop-less : tie.Need-loop-less Inv-loop μ-loop
+loop-less c =
+    let tried = c .before .before .before .before .before .before .before in
+    let step-from = tried .before .before in
+    let loop = step-from .before in
+    let start = loop .before .before .before in
     let strip = start .args .strip .now in
     let b = triedBlock (tried .b .given .0 .0) in
     let e = sym (step-from .step-from .ensures) ∙ ap stepAnswer (tried .b .given .1) in
@@ -84,14 +98,14 @@ loop-less c =
 
 loop-again : tie.Need-loop-again Inv-loop μ-loop
 loop-again c =
-    let tried = c .before .before .before .before .before .before in
+    let tried = c .before .before .before .before .before .before .before in
     let step-from = tried .before .before in
     let loop = step-from .before in
-    let start = loop .before .before in
+    let start = loop .before .before .before in
     let strip = start .args .strip .now in
     let b = triedBlock (tried .b .given .0 .0) in
     let e = sym (step-from .step-from .ensures) ∙ ap stepAnswer (tried .b .given .1) in
-    walking-next (loop .loop .inv) b e
+    walking-next (loop .loop .inv) b e (c .before .add-bad .ensures)
 
 pub count-places-spec : {M : Type 1} → statement M
 count-places-spec =
@@ -99,6 +113,7 @@ count-places-spec =
     (tie.spec
     Inv-loop
     μ-loop
+    none-requires
     loop-holds
     step-from-requires
     enum-told
@@ -107,5 +122,6 @@ count-places-spec =
     add-one
     add-two
     add-lost
+    add-bad-requires
     loop-less
     loop-again)
