@@ -1,9 +1,12 @@
 /* Loads a program from a TAP file:  load < FILE.tap > PROGRAM
  *
- * The program's bytes go to the output, what was found to the error output. The status is 1 where the tape is refused. */
+ * The program's bytes go to the output, what was found to the error output. The status is 1 where the tape is refused; a byte that is lost is
+ * told with why it is bad in each copy. */
 #include <stdio.h>
 
 #include "crumbthistle.h"
+
+#include "causes.h"
 
 enum { MOST_FILE = 1 << 20 };
 
@@ -14,7 +17,9 @@ static uint8_t data[TAPE_MOST_BYTES];
 
 static int refused(tape_refusal why)
 {
-    fprintf(stderr, "refused %u %u %llu\n", (unsigned)why.number, (unsigned)why.block, (unsigned long long)why.place);
+    fprintf(stderr, "refused %u %u %llu", (unsigned)why.number, (unsigned)why.block, (unsigned long long)why.place);
+    tell_causes(stderr, why);
+    fputc('\n', stderr);
     return 1;
 }
 

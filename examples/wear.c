@@ -1,10 +1,13 @@
 /* Tells how worn a tape is:  wear < FILE.tap
  *
  * A line for each block that is found: where it starts, what was tried, its bytes, what was answered, and how many of its places were taken
- * from copy one, taken from copy two, and lost. Then the totals. The status is 1 where the file is no TAP file or a block is refused. */
+ * from copy one, taken from copy two, and lost; then how many of its bytes are bad, by their causes. Then the totals. The status is 1 where the
+ * file is no TAP file or a block is refused. */
 #include <stdio.h>
 
 #include "crumbthistle.h"
+
+#include "causes.h"
 
 enum { MOST_FILE = 1 << 20 };
 
@@ -19,13 +22,24 @@ static void answer(tape_refusal why)
         printf("accepted");
     else
         printf("refused %u %u %llu", (unsigned)why.number, (unsigned)why.block, number(why.place));
+    tell_causes(stdout, why);
+}
+
+/* How many bytes are bad, by each cause that there is; this ends a line. */
+static void tell_bad(const uint64_t *causes)
+{
+    for (int i = 0; i < TAPE_CAUSES; i++)
+        if (causes[i] != 0)
+            printf(", %llu bad by %s", number(causes[i]), cause_words[i]);
+    putchar('\n');
 }
 
 static void tell(tape_walked b, int data)
 {
     printf("%llu %s %llu ", number(b.start), data ? "data" : "header", number(b.n));
     answer(b.refusal);
-    printf(" one %llu two %llu lost %llu\n", number(b.one), number(b.two), number(b.lost));
+    printf(" one %llu two %llu lost %llu", number(b.one), number(b.two), number(b.lost));
+    tell_bad(b.causes);
 }
 
 int main(void)
@@ -49,9 +63,10 @@ int main(void)
         status |= b.refusal.number != TAPE_ACCEPTED;
     }
 
-    tape_wear none = {0, 0, 0, 0, 0, 0, 0, 0};
+    tape_wear none = {0};
     tape_wear t = tape_report_strip(none, pulses, tape.count).totals;
     printf("pulses %llu short %llu medium %llu long %llu noise\n", number(t.shorts), number(t.mediums), number(t.longs), number(t.noises));
-    printf("places %llu one %llu two %llu lost\n", number(t.one), number(t.two), number(t.lost));
+    printf("places %llu one %llu two %llu lost", number(t.one), number(t.two), number(t.lost));
+    tell_bad(t.causes);
     return status;
 }

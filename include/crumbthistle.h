@@ -12,9 +12,9 @@
  * There is no heap, no global state, no file access, and no setting up. Calls on different buffers may run at the same time. The archive
  * is for x86-64 Linux and uses nothing of the C library but memcpy and memset.
  *
- * Refusals. Every answer begins with a tape_refusal. Where a call refuses, every number of its answer after that is 0, and no buffer has
- * been altered; tape_walk_block and tape_report_strip say what theirs hold. Where several refusals apply, the first in the call's order is
- * given.
+ * Refusals. Every answer but that of tape_read_byte, which refuses nothing, begins with a tape_refusal. Where a call refuses, every number of
+ * its answer after that is 0, and no buffer has been altered; tape_walk_block and tape_report_strip say what theirs hold. Where several
+ * refusals apply, the first in the call's order is given.
  *
  * Pulses are full periods as counts of CPU cycles. 200 to 439 are short, 440 to 607 medium, 608 to 959 long, all others noise; written are
  * 360, 520 and 688. A place is an index, from 0 on.
@@ -31,8 +31,9 @@ extern "C" {
 
 /* The version of this interface. It is raised with every change of a call, a struct or a number below that a program which was built
  * before would notice. In version 2 the long form of TAP files counts cycles, where it counted units of eight cycles. In version 3
- * tape_read_block and tape_read_file need more stack. */
-#define TAPE_VERSION 3
+ * tape_read_block and tape_read_file need more stack. In version 4 a refusal has the causes of a lost byte, so that every answer which begins
+ * with one is longer; totals and steps of a walk have the bad bytes by their causes, and tape_walk_block and tape_report_strip need more stack. */
+#define TAPE_VERSION 4
 
 enum {
     TAPE_ACCEPTED = 0,
@@ -42,7 +43,7 @@ enum {
     TAPE_NO_START = 3,            /* there is no start: no 16 short pulses at or after `from` with a good byte $89 just after them */
     TAPE_CUT_SHORT = 4,           /* the pulses end before copy two does; place: the block's start */
     TAPE_WRONG_COUNTDOWN = 5,     /* a countdown byte is wrong in copy one ($89 ..) and in copy two ($09 ..); place: the first such, 0 to 8 */
-    TAPE_LOST_BYTE = 6,           /* a byte is bad in both copies; place: the first such, 0 to n, n for the checksum */
+    TAPE_LOST_BYTE = 6,           /* a byte is bad in both copies; place: the first such, 0 to n, n for the checksum; with the causes */
     TAPE_WRONG_CHECKSUM = 7,      /* the repaired bytes do not fit the checksum; place: n */
     TAPE_WRONG_TYPE = 8,          /* a program file's type is not 1 or 3; a lone header's not 1 to 5 */
     TAPE_WRONG_ADDRESSES = 9,     /* end is not above start, or over 8,192 above it, or, in writing, not start plus the number of bytes */
@@ -51,6 +52,16 @@ enum {
     TAPE_CUT_LONG_FORM = 12,      /* TAP version 1: a zero byte with fewer than three bytes after it; place: its index in the data */
     TAPE_NO_TAP_FORM = 13,        /* a duration has no form in that version; place: the index of the first such */
     TAPE_WRONG_LEADER = 14        /* a leader under 64 or over 65,535 pulses */
+};
+
+/* Why a byte is bad: the first of its ten pairs of pulses that is wrong, or that none is wrong and the number of ones among the nine bits is
+ * even. */
+enum {
+    TAPE_CAUSE_MARKER = 0, /* pair 0 is not the marker */
+    TAPE_CAUSE_BIT = 1,    /* pair 1 to 8 is no bit; bit i, from the lowest, which is bit 0, has the cause TAPE_CAUSE_BIT + i */
+    TAPE_CAUSE_PARITY = 9, /* pair 9, the parity bit's, is no bit */
+    TAPE_CAUSE_ONES = 10,  /* all pairs are right, and the number of ones is even */
+    TAPE_CAUSES = 11       /* how many there are */
 };
 
 enum {
@@ -68,8 +79,12 @@ enum {
 #define TAPE_FILE_PULSES(len, leader0, leader1) (TAPE_BLOCK_PULSES(TAPE_HEADER_BYTES, leader0) + TAPE_BLOCK_PULSES(len, leader1))
 
 /* Whether a call refused, and why. `number` is one of the refusals above, or TAPE_ACCEPTED, and then `block` and `place` are 0 too. `block`
- * is 1 for a program file's data block, else 0. `place` is 0 where none is named above. */
-typedef struct { uint32_t number, block; uint64_t place; } tape_refusal;
+ * is 1 for a program file's data block, else 0. `place` is 0 where none is named above. With TAPE_LOST_BYTE, `cause_one` and `cause_two` say
+ * why the byte is bad in copy one and in copy two; with every other number both are 0. */
+typedef struct { uint32_t number, block; uint64_t place; uint32_t cause_one, cause_two; } tape_refusal;
+
+/* What reading one byte answers. `good` is 1 for a good byte, with its value and cause 0; it is 0 for a bad one, with value 0 and the cause. */
+typedef struct { uint32_t good, value, cause; } tape_byte;
 
 /* What a writer answers: how many pulses or bytes were put. */
 typedef struct { tape_refusal refusal; uint64_t count; } tape_put;
@@ -88,8 +103,9 @@ typedef struct { tape_refusal refusal; uint32_t version; uint64_t count; } tape_
 typedef struct { tape_refusal refusal; uint64_t offset, length; } tape_span;
 
 /* Totals of a report: strips, the pulses of each class on them, and the places of all blocks of their walks (payload bytes and checksums) taken
- * from copy one, taken from copy two, and lost. All are 0 to begin with. */
-typedef struct { uint64_t strips, shorts, mediums, longs, noises, one, two, lost; } tape_wear;
+ * from copy one, taken from copy two, and lost. `causes` are the bytes of both copies at these places that are bad, by their causes. All are 0
+ * to begin with. */
+typedef struct { uint64_t strips, shorts, mediums, longs, noises, one, two, lost; uint64_t causes[11]; } tape_wear;
 
 /* What the report answers: the totals with the strip added, or, where it refuses, the totals as they were lent. */
 typedef struct { tape_refusal refusal; tape_wear totals; } tape_report;
@@ -99,9 +115,13 @@ typedef struct { tape_refusal refusal; tape_wear totals; } tape_report;
 typedef struct { uint64_t from, length; } tape_walk;
 
 /* What a step of a walk answers. `found` is 1 where a start was found, and a block tried there: its payload bytes and its start are told, its
- * places taken from copy one, taken from copy two, and lost, and where the walk goes on, also where the block is refused. `end` is the place
- * after copy two of an accepted block, 0 for a refused one. */
-typedef struct { tape_refusal refusal; uint32_t found; uint64_t n, start, end, one, two, lost; tape_walk next; } tape_walked;
+ * places taken from copy one, taken from copy two, and lost, the bytes of both copies at these places that are bad, by their causes, and where
+ * the walk goes on, also where the block is refused. `end` is the place after copy two of an accepted block, 0 for a refused one. */
+typedef struct { tape_refusal refusal; uint32_t found; uint64_t n, start, end, one, two, lost; uint64_t causes[11]; tape_walk next; } tape_walked;
+
+/* The byte at a place: twenty pulses, in ten pairs. Past the last pulse there is only noise: a byte that is cut short is bad, and its cause is
+ * the first pair that is wrong or not whole. Any place may be lent. Nothing is refused. */
+tape_byte tape_read_byte(const uint32_t *pulses, size_t count, size_t at);
 
 /* Writes a block: a leader of that many short pulses, and the n payload bytes with countdown and checksum, twice. `out` has `room` places
  * and needs TAPE_BLOCK_PULSES(n, leader). Refuses, in this order: 1, 14, 2. */
@@ -164,28 +184,31 @@ tape_tap tape_read_tap(const uint8_t *file, size_t len, uint32_t *out, size_t ro
  *
  * Refuses, in this order: 1 for a length over 8,192, and 3, with `found` 0, `next` as it was lent, and all else 0; 4, 5, 6, 7 as
  * tape_read_block does, with `found` 1 and block 1 where a data block was tried. The three counts add up to n + 1, also after 5, 6 and 7; after
- * 4 they are 0. Countdown places do not count. Any place and any length may be lent. */
+ * 4 they are 0, and so are the eleven counts of bad bytes. There a lost place counts twice, once by each cause; one taken from copy two by copy
+ * one's cause; one taken from copy one by copy two's, where copy two's byte is bad. Countdown places do not count. Any place and any length may
+ * be lent. */
 tape_walked tape_walk_block(const uint32_t *pulses, size_t count, tape_walk at);
 
-/* Adds a strip to totals: one strip, its pulses of each class, and the places of all blocks of its walk from {0, 0} on. Refuses, with 1 and the
- * totals as they were lent, where these count 1,000 strips or more, where one of them is above 1,000,000,000,000, and where there are over
- * 1,048,576 pulses. */
+/* Adds a strip to totals: one strip, its pulses of each class, and the places and the bad bytes of all blocks of its walk from {0, 0} on.
+ * Refuses, with 1 and the totals as they were lent, where these count 1,000 strips or more, where one of them is above 1,000,000,000,000, and
+ * where there are over 1,048,576 pulses. */
 tape_report tape_report_strip(tape_wear totals, const uint32_t *pulses, size_t count);
 
 /* Bytes of stack that each call needs, with its return address: read off the machine code of this archive and rounded up to a multiple of
- * 16. What memcpy and memset of the C library need is not counted, nor the 64 bytes of the totals that the caller passes. */
+ * 16. What memcpy and memset of the C library need is not counted, nor the 152 bytes of the totals that the caller passes. */
 enum {
+    TAPE_STACK_READ_BYTE = 128,
     TAPE_STACK_WRITE_BLOCK = 320,
     TAPE_STACK_READ_BLOCK = 448,
     TAPE_STACK_WRITE_FILE = 752,
-    TAPE_STACK_READ_FILE = 768,
+    TAPE_STACK_READ_FILE = 752,
     TAPE_STACK_PACK_HEADER = 16,
     TAPE_STACK_UNPACK_HEADER = 16,
     TAPE_STACK_SHOWN_NAME = 16,
     TAPE_STACK_WRITE_TAP = 64,
     TAPE_STACK_READ_TAP = 96,
-    TAPE_STACK_WALK_BLOCK = 496,
-    TAPE_STACK_REPORT_STRIP = 640
+    TAPE_STACK_WALK_BLOCK = 896,
+    TAPE_STACK_REPORT_STRIP = 1120
 };
 
 #ifdef __cplusplus

@@ -8,11 +8,11 @@ use std::iter;
 
 use crate::random::Random;
 use crate::readers::Tally;
-use crate::reference::block::{copy_len, Places, MAX_PAYLOAD, TRAILER};
-use crate::reference::byte::read_byte;
+use crate::reference::block::{copy_len, Places, COUNTDOWNS, MAX_PAYLOAD, TRAILER};
+use crate::reference::byte::{value_of, CAUSES, PULSES};
 use crate::reference::header::HEADER;
 use crate::reference::pulse::Class;
-use crate::reference::refusal::{CUT, NO_START};
+use crate::reference::refusal::{CUT, LOST, NO_START};
 use crate::reference::{wear, BlockRead, FileRead, Header, Refusal, Span, TapRead};
 use crate::reference::{Walk, Walked, Wear};
 use crate::thresholds::Thresholds;
@@ -23,6 +23,14 @@ const DEFAULT_CALLS: u64 = 60_000;
 
 /// Elements on either side of a lent buffer that no call may touch.
 const MARGIN: usize = 32;
+
+/// Bad bytes that are counted by cause: those read one by one, those of a block's
+/// first lost place, and those that walks and reports tell.
+pub const BYTES_READ: &str = "bytes read";
+pub const LOST_IN_COPY_ONE: &str = "first places lost, copy one";
+pub const LOST_IN_COPY_TWO: &str = "first places lost, copy two";
+pub const BYTES_OF_WALKS: &str = "bytes of walks";
+pub const BYTES_OF_REPORTS: &str = "bytes of reports";
 
 /// A buffer to lend, filled with a pattern, with a margin around it.
 #[derive(Clone, Debug, PartialEq, Eq)]
@@ -82,6 +90,8 @@ pub struct Run {
     /// Durations that came back from a TAP file of version 1, by their remainder
     /// modulo 8: first those below 2,048 cycles, then the others.
     remainders: [[u64; 8]; 2],
+    /// Bad bytes of some kind, by cause.
+    causes: BTreeMap<&'static str, [u64; CAUSES]>,
 }
 
 /// A kind of input: its name, and what makes one and calls with it.
@@ -100,6 +110,7 @@ impl Run {
             seen: BTreeMap::new(),
             met: BTreeMap::new(),
             remainders: [[0; 8]; 2],
+            causes: BTreeMap::new(),
         }
     }
 
@@ -143,6 +154,28 @@ impl Run {
                 assert!(
                     times >= self.fair(),
                     "{size} durations of remainder {remainder} came back too seldom"
+                );
+            }
+        }
+    }
+
+    /// Counts bad bytes of this kind by their cause.
+    fn count_cause(&mut self, kind: &'static str, cause: usize, times: usize) {
+        self.causes.entry(kind).or_default()[cause] += times as u64;
+    }
+
+    /// Prints those counts, and demands that each cause came up a fair number of
+    /// times with the kinds listed here.
+    pub fn demand_every_cause(&self, kinds: &[&'static str]) {
+        for (kind, counts) in &self.causes {
+            println!("{}: {kind}, by cause: {counts:?}", self.area);
+        }
+        for kind in kinds {
+            let counts = self.causes.get(kind).copied().unwrap_or_default();
+            for (cause, times) in counts.into_iter().enumerate() {
+                assert!(
+                    times >= self.fair(),
+                    "{kind}: cause {cause} was met too seldom"
                 );
             }
         }
@@ -232,6 +265,28 @@ impl Run {
         self.made += 1;
         let (number, block) = refusal.map_or((0, 0), |refusal| (refusal.number, refusal.block));
         *self.seen.entry((call, number, block)).or_default() += 1;
+        if let Some(refusal) = refusal.filter(|refusal| refusal.number == LOST) {
+            let [one, two] = refusal.causes.map(|cause| cause as usize);
+            self.count_cause(LOST_IN_COPY_ONE, one, 1);
+            self.count_cause(LOST_IN_COPY_TWO, two, 1);
+        }
+    }
+
+    /// The byte at a place.
+    pub fn read_byte(&mut self, pulses: &[u32], at: usize) -> Result<u8, usize> {
+        let answer = library::read_byte(pulses, at);
+        let expected = reference::read_byte(pulses, at);
+        let call = match answer {
+            Ok(_) => "read_byte",
+            Err(_) => "read_byte, bad",
+        };
+        self.settle(call, &Ok(answer), &Ok(expected), &[], || {
+            format!("pulses {}, at {at}", brief(pulses))
+        });
+        if let Err(cause) = answer {
+            self.count_cause(BYTES_READ, cause, 1);
+        }
+        answer
     }
 
     pub fn write_block(
@@ -295,7 +350,7 @@ impl Run {
 
     pub fn read_fixed(&mut self, pulses: &[u32]) {
         let answer = readers::read_fixed(pulses);
-        let expected = Tally::by(read_byte, pulses);
+        let expected = Tally::by(value_of, pulses);
         let call = match expected.good {
             0 => "read_fixed, none good",
             _ => "read_fixed",
@@ -481,7 +536,7 @@ impl Run {
                 .count()
         };
         let sum = |places: fn(&Walked) -> usize| blocks.iter().map(places).sum::<usize>();
-        let sums = [
+        let mut sums = vec![
             1,
             count(Class::Short),
             count(Class::Medium),
@@ -491,12 +546,16 @@ impl Run {
             sum(|walked| walked.places.two),
             sum(|walked| walked.places.lost),
         ];
+        assert_eq!(sums[1..5].iter().sum::<usize>(), pulses.len());
+        for cause in 0..CAUSES {
+            let counts = blocks.iter().map(|walked| walked.places.causes[cause]);
+            sums.push(counts.sum());
+        }
         assert_eq!(
-            totals.numbers(),
-            sums.map(|sum| sum as u64),
+            totals.numbers().map(|total| total as usize)[..],
+            sums,
             "the report is not the walk"
         );
-        assert_eq!(sums[1..5].iter().sum::<usize>(), pulses.len());
         blocks
     }
 
@@ -531,6 +590,14 @@ impl Run {
         for walked in blocks {
             let refused = walked.end.err().map_or(0, |refusal| refusal.number);
             let places = walked.places;
+            for (cause, times) in places.causes.into_iter().enumerate() {
+                self.count_cause(BYTES_OF_WALKS, cause, times);
+            }
+            let bad: usize = places.causes.iter().sum();
+            let bad_in_vain = bad - places.two - 2 * places.lost;
+            self.meet("bad bytes of copy two beside good ones", bad_in_vain > 0);
+            self.meet("bad bytes after refusal 5", refused == 5 && bad > 0);
+            self.meet("bad bytes after refusal 7", refused == 7 && bad > 0);
             self.meet("places from copy two", places.two > 0);
             self.meet("several places lost", places.lost > 1);
             self.meet(
@@ -569,6 +636,12 @@ impl Run {
         self.settle("report_strip", &answer, &expected, &[], || {
             format!("{totals:?}, pulses {}", brief(pulses))
         });
+        if let Ok(after) = answer {
+            for cause in 0..CAUSES {
+                let times = after.causes[cause] - totals.causes[cause];
+                self.count_cause(BYTES_OF_REPORTS, cause, times as usize);
+            }
+        }
         answer
     }
 }
@@ -587,8 +660,8 @@ fn step_name(at: Walk, answer: &Result<Walked, Refusal>) -> &'static str {
     }
 }
 
-/// Checks what is true of every step of the reference, and that it answers what
-/// the block reader does.
+/// Checks what is true of every step of the reference, that it answers what the
+/// block reader does, and that it counts what the library reads byte by byte.
 fn check_step(pulses: &[u32], at: Walk, walked: &Walked) {
     let n = if at.length == 0 { HEADER } else { at.length };
     let block = u32::from(at.length > 0);
@@ -599,11 +672,45 @@ fn check_step(pulses: &[u32], at: Walk, walked: &Walked) {
         end,
     });
     assert_eq!(told, read.map_err(|refusal| Refusal { block, ..refusal }));
-    let is_cut = told.is_err_and(|refusal| refusal.number == CUT);
-    let Places { one, two, lost } = walked.places;
-    assert_eq!(one + two + lost, if is_cut { 0 } else { n + 1 });
-    assert!(lost == 0 || told.is_err());
+    let places = match told {
+        Err(refusal) if refusal.number == CUT => Places::default(),
+        _ => places_by_bytes(pulses, walked),
+    };
+    assert_eq!(
+        walked.places, places,
+        "the places are not those of the bytes"
+    );
+    assert!(places.lost == 0 || told.is_err());
     assert!(at.from < walked.start && walked.start < walked.next.from);
+    if let Some(refusal) = told.err().filter(|refusal| refusal.number == LOST) {
+        let bytes = bytes_at(pulses, walked, refusal.place);
+        let causes = refusal.causes.map(|cause| Err(cause as usize));
+        assert_eq!(bytes, causes, "the causes are not those of the bytes");
+    }
+}
+
+/// The bytes of both copies at a place of payload or checksum, by the library.
+fn bytes_at(pulses: &[u32], walked: &Walked, place: usize) -> [Result<u8, usize>; 2] {
+    let one = walked.start + PULSES * (COUNTDOWNS[0].len() + place);
+    let two = one + copy_len(walked.n) + TRAILER;
+    [one, two].map(|at| library::read_byte(pulses, at))
+}
+
+/// The places of a block and its bad bytes, counted byte by byte.
+fn places_by_bytes(pulses: &[u32], walked: &Walked) -> Places {
+    let mut places = Places::default();
+    for place in 0..=walked.n {
+        let bytes = bytes_at(pulses, walked, place);
+        match bytes {
+            [Ok(_), _] => places.one += 1,
+            [_, Ok(_)] => places.two += 1,
+            _ => places.lost += 1,
+        }
+        for cause in bytes.into_iter().filter_map(Result::err) {
+            places.causes[cause] += 1;
+        }
+    }
+    places
 }
 
 /// Checks that a program's header and the step after it answer what the file
@@ -616,6 +723,7 @@ fn check_file(pulses: &[u32], at: Walk, head: &Walked, data: Option<&Walked>) {
         number: NO_START,
         block: 1,
         place: 0,
+        causes: [0, 0],
     });
     let read = reference::read_file(pulses, at.from, &mut [0; HEADER], &mut [0; MAX_PAYLOAD]);
     let told = data.map_or(no_start, |data| data.end);

@@ -2,6 +2,8 @@
 //! and the answers of the reference.
 
 use crate::reference::block::Places;
+use crate::reference::byte::{CAUSES, EVEN_ONES};
+use crate::reference::refusal::LOST;
 use crate::reference::{BlockRead, FileRead, Header, Refusal, Span, TapRead, Walk, Walked, Wear};
 
 #[repr(C)]
@@ -9,6 +11,8 @@ struct TapeRefusal {
     number: u32,
     block: u32,
     place: u64,
+    cause_one: u32,
+    cause_two: u32,
 }
 
 #[repr(C)]
@@ -58,6 +62,7 @@ struct TapeWear {
     one: u64,
     two: u64,
     lost: u64,
+    causes: [u64; CAUSES],
 }
 
 #[repr(C)]
@@ -82,10 +87,20 @@ struct TapeWalked {
     one: u64,
     two: u64,
     lost: u64,
+    causes: [u64; CAUSES],
     next: TapeWalk,
 }
 
+#[repr(C)]
+struct TapeByte {
+    good: u32,
+    value: u32,
+    cause: u32,
+}
+
 extern "C" {
+    fn tape_read_byte(pulses: *const u32, count: usize, at: usize) -> TapeByte;
+
     fn tape_write_block(
         payload: *const u8,
         n: usize,
@@ -157,17 +172,25 @@ extern "C" {
 }
 
 impl TapeRefusal {
-    /// Whether the call was accepted. A refusal must come with no numbers, and
-    /// an acceptance with neither a block nor a place.
+    /// Whether the call was accepted. A refusal must come with no numbers, only
+    /// that of a lost place with causes, and an acceptance with neither a block
+    /// nor a place nor causes.
     fn accepted(self, numbers: &[u64]) -> Result<(), Refusal> {
+        let causes = [self.cause_one, self.cause_two];
         if self.number == 0 {
             assert_eq!(
-                (self.block, self.place),
-                (0, 0),
-                "an accepted call names a block or a place"
+                (self.block, self.place, causes),
+                (0, 0, [0, 0]),
+                "an accepted call names a block, a place or causes"
             );
             return Ok(());
         }
+        let most = if self.number == LOST { EVEN_ONES } else { 0 };
+        assert!(
+            causes.iter().all(|&cause| size(cause.into()) <= most),
+            "refusal {} comes with causes {causes:?}",
+            self.number
+        );
         assert!(
             numbers.iter().all(|&number| number == 0),
             "refusal {} comes with numbers {numbers:?}",
@@ -177,12 +200,32 @@ impl TapeRefusal {
             number: self.number,
             block: self.block,
             place: size(self.place),
+            causes,
         })
     }
 }
 
 fn size(number: u64) -> usize {
     usize::try_from(number).expect("a number of the library fits a size")
+}
+
+impl TapeByte {
+    /// A good byte must come with no cause, and a bad one with no value.
+    fn answer(self) -> Result<u8, usize> {
+        match self.good {
+            0 => {
+                assert_eq!(self.value, 0, "a bad byte comes with a value");
+                let cause = size(self.cause.into());
+                assert!(cause <= EVEN_ONES, "there is no cause {cause}");
+                Err(cause)
+            }
+            1 => {
+                assert_eq!(self.cause, 0, "a good byte comes with a cause");
+                Ok(self.value.try_into().expect("a value is a byte"))
+            }
+            good => panic!("a byte is good or bad, not {good}"),
+        }
+    }
 }
 
 impl TapePut {
@@ -239,16 +282,16 @@ impl TapeSpan {
 
 impl TapeWear {
     fn new(totals: Wear) -> Self {
-        let [strips, shorts, mediums, longs, noises, one, two, lost] = totals.numbers();
         Self {
-            strips,
-            shorts,
-            mediums,
-            longs,
-            noises,
-            one,
-            two,
-            lost,
+            strips: totals.strips,
+            shorts: totals.shorts,
+            mediums: totals.mediums,
+            longs: totals.longs,
+            noises: totals.noises,
+            one: totals.one,
+            two: totals.two,
+            lost: totals.lost,
+            causes: totals.causes,
         }
     }
 
@@ -262,6 +305,7 @@ impl TapeWear {
             one: self.one,
             two: self.two,
             lost: self.lost,
+            causes: self.causes,
         }
     }
 }
@@ -300,6 +344,7 @@ impl TapeWalked {
         let next = self.next.walk();
         if self.found == 0 {
             assert_eq!(next, lent, "a walk goes on with no block found");
+            assert_eq!(self.causes, [0; CAUSES], "bad bytes of no block");
             self.refusal.accepted(&numbers)?;
             panic!("no block is found, and no refusal tells why");
         }
@@ -310,10 +355,21 @@ impl TapeWalked {
             n,
             start,
             end: refused.map(|()| end),
-            places: Places { one, two, lost },
+            places: Places {
+                one,
+                two,
+                lost,
+                causes: self.causes.map(size),
+            },
             next,
         })
     }
+}
+
+pub fn read_byte(pulses: &[u32], at: usize) -> Result<u8, usize> {
+    // SAFETY: the pointer comes with the length of its slice.
+    let byte = unsafe { tape_read_byte(pulses.as_ptr(), pulses.len(), at) };
+    byte.answer()
 }
 
 pub fn write_block(payload: &[u8], leader: u64, out: &mut [u32]) -> Result<usize, Refusal> {

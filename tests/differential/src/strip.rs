@@ -4,7 +4,7 @@ use std::ops::Range;
 
 use crate::random::Random;
 use crate::reference::block::{block_len, copy_len, COUNTDOWNS, SHORTS_BEFORE, SYNC, TRAILER};
-use crate::reference::byte::{write_byte, PULSES};
+use crate::reference::byte::{write_byte, CAUSES, EVEN_ONES, PULSES};
 use crate::reference::header::HEADER;
 use crate::reference::pulse::{Class, LONG, SHORT};
 use crate::reference::{pack_header, write_block, Header};
@@ -188,9 +188,39 @@ pub enum Source {
     Lost,
 }
 
+/// Sources for the places 0 to n of a block.
+pub fn some_sources(random: &mut Random, n: usize) -> Vec<Source> {
+    let seldom = random.pick(&[2, 10, 100]);
+    let worn: &[Source] = match random.below(3) {
+        0 => &[Source::Two, Source::Lost],
+        1 => &[Source::Lost],
+        _ => &[Source::Two],
+    };
+    let mut sources: Vec<Source> = (0..=n)
+        .map(|_| match random.once_in(seldom) {
+            true => random.pick(worn),
+            false => Source::One,
+        })
+        .collect();
+    if random.once_in(3) {
+        sources[n] = random.pick(worn);
+    }
+    sources
+}
+
+/// The causes of the bytes at a place in copy one and copy two, where they are
+/// bad.
+pub type BadBytes = [Option<usize>; 2];
+
 /// Makes bytes of a sound block bad, so that each place of payload and checksum
-/// has this source.
-pub fn wear_down(random: &mut Random, pulses: &mut [u32], block: Placed, sources: &[Source]) {
+/// has this source. Answers what is bad at each place.
+pub fn wear_down(
+    random: &mut Random,
+    pulses: &mut [u32],
+    block: Placed,
+    sources: &[Source],
+) -> Vec<BadBytes> {
+    let mut places = vec![[None; 2]; sources.len()];
     for (i, source) in sources.iter().enumerate() {
         let bad_copies: &[usize] = match source {
             Source::One if random.once_in(4) => &[1],
@@ -199,8 +229,72 @@ pub fn wear_down(random: &mut Random, pulses: &mut [u32], block: Placed, sources
             Source::Lost => &[0, 1],
         };
         for &copy in bad_copies {
-            let hits = random.within(1..=3);
-            hit(random, &mut pulses[block.frame(copy, COUNTDOWN + i)], hits);
+            let cause = some_cause(random);
+            make_bad(random, &mut pulses[block.frame(copy, COUNTDOWN + i)], cause);
+            places[i][copy] = Some(cause);
+        }
+    }
+    places
+}
+
+/// The first place that is bad in both copies, with the causes.
+pub fn first_lost(places: &[BadBytes]) -> Option<(usize, [usize; 2])> {
+    let mut places = places.iter().enumerate();
+    places.find_map(|(place, bad)| match *bad {
+        [Some(one), Some(two)] => Some((place, [one, two])),
+        _ => None,
+    })
+}
+
+/// How many bytes are bad by each cause, in both copies together.
+pub fn count_causes(places: &[BadBytes]) -> [usize; CAUSES] {
+    let mut counts = [0; CAUSES];
+    for cause in places.iter().flatten().flatten() {
+        counts[*cause] += 1;
+    }
+    counts
+}
+
+/// A cause. An even number of ones, which hits seldom bring about, comes more
+/// often than a wrong pair.
+fn some_cause(random: &mut Random) -> usize {
+    match random.below(6) {
+        0 => EVEN_ONES,
+        _ => random.below(CAUSES),
+    }
+}
+
+/// Makes a good byte bad by this cause: bits are turned round until the number
+/// of ones is even, or a pair is made wrong. What comes after a wrong pair may be
+/// anything, and bits before it may be turned round.
+pub fn make_bad(random: &mut Random, frame: &mut [u32], cause: usize) {
+    if cause == EVEN_ONES {
+        turn_bit(frame, random.below(9));
+        if random.once_in(2) {
+            turn(random, frame);
+        }
+        return;
+    }
+    if random.once_in(3) {
+        turn_bit(frame, random.below(9));
+    }
+    let (pair, after) = frame[2 * cause..].split_at_mut(2);
+    pair.copy_from_slice(&wrong_pair(random, cause));
+    if random.once_in(3) {
+        after.fill_with(|| random.any_pulse());
+    }
+}
+
+/// Two pulses that a good byte does not have as this pair.
+fn wrong_pair(random: &mut Random, pair: usize) -> [u32; 2] {
+    let sound: &[[Class; 2]] = match pair {
+        0 => &[[Class::Long, Class::Medium]],
+        _ => &[[Class::Short, Class::Medium], [Class::Medium, Class::Short]],
+    };
+    loop {
+        let pulses = [random.any_pulse(), random.any_pulse()];
+        if !sound.contains(&pulses.map(Class::of)) {
+            return pulses;
         }
     }
 }
@@ -238,7 +332,8 @@ fn some_place(random: &mut Random, block: &Placed) -> usize {
 pub fn spoil(random: &mut Random, pulses: &mut Vec<u32>, block: Placed) {
     match random.below(16) {
         0 => hit_anywhere(random, pulses),
-        1 | 2 => hit_both_copies(random, pulses, &block),
+        1 => hit_both_copies(random, pulses, &block),
+        2 => lose_places(random, pulses, &block),
         3 => hit_leader(random, pulses, &block),
         4 | 5 => turn_bits(random, pulses, &block),
         6 => turn_bits_of_both(random, pulses, &block),
@@ -272,6 +367,20 @@ fn hit_both_copies(random: &mut Random, pulses: &mut [u32], block: &Placed) {
             if !frame.is_empty() {
                 let hits = random.within(1..=4);
                 hit(random, frame, hits);
+            }
+        }
+    }
+}
+
+/// Makes bytes bad in both copies by any cause.
+fn lose_places(random: &mut Random, pulses: &mut [u32], block: &Placed) {
+    for _ in 0..random.within(1..=3) {
+        let place = some_place(random, block);
+        for copy in 0..2 {
+            let frame = frame_of(pulses, block, copy, place);
+            if !frame.is_empty() {
+                let cause = some_cause(random);
+                make_bad(random, frame, cause);
             }
         }
     }
@@ -541,5 +650,31 @@ mod tests {
             most = most.max(changed);
         }
         assert!(most > 40);
+    }
+
+    #[test]
+    fn a_byte_is_bad_by_the_cause_that_is_asked_for() {
+        for run in 0..5000 {
+            let mut random = Random::new(4, run);
+            let cause = run as usize % CAUSES;
+            let mut frame = write_byte(random.byte());
+            make_bad(&mut random, &mut frame, cause);
+            let letters = frame.map(|pulse| match Class::of(pulse) {
+                Class::Short => b'S',
+                Class::Medium => b'M',
+                Class::Long => b'L',
+                Class::Noise => b'N',
+            });
+            let (pairs, _) = letters.as_chunks::<2>();
+            let wrong = (0..10).find(|&i| match i {
+                0 => pairs[i] != *b"LM",
+                _ => pairs[i] != *b"SM" && pairs[i] != *b"MS",
+            });
+            let ones = pairs.iter().filter(|&pair| pair == b"MS").count();
+            match cause {
+                10 => assert_eq!((wrong, ones % 2), (None, 0)),
+                _ => assert_eq!(wrong, Some(cause)),
+            }
+        }
     }
 }

@@ -2,7 +2,7 @@
 
 use crate::random::Random;
 use crate::readers::Tally;
-use crate::reference::byte::read_byte;
+use crate::reference::byte::value_of;
 use crate::reference::pulse::{Class, LONG, MEDIUM, SHORT};
 
 /// Where short, medium and long pulses begin, and where noise begins again.
@@ -59,7 +59,7 @@ impl Thresholds {
             Class::Noise => 0,
         };
         let figures: Vec<u32> = pulses.iter().map(figure).collect();
-        Tally::by(read_byte, &figures)
+        Tally::by(value_of, &figures)
     }
 
     /// The pulses on both sides of each threshold, of 0 and of the largest

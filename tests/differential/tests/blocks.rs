@@ -1,12 +1,14 @@
 //! The block writer and the block reader (document 01, "Blocks" and "Reading
-//! a block").
+//! a block"), with the causes of a lost place (document 02, Q-6).
 
-use differential::compare::{Run, Scene};
+use differential::compare::{Run, Scene, LOST_IN_COPY_ONE, LOST_IN_COPY_TWO};
 use differential::random::Random;
 use differential::reference::block::{block_len, SHORTS_BEFORE};
+use differential::reference::byte::CAUSES;
+use differential::reference::Refusal;
 use differential::strip::{
-    cut, damage, drift, hit, patchwork, places_to_spoil, push_block, push_byte, push_near_start,
-    push_shorts, spoil, Placed,
+    cut, damage, drift, first_lost, hit, make_bad, patchwork, places_to_spoil, push_block,
+    push_byte, push_near_start, push_shorts, some_sources, spoil, wear_down, Placed,
 };
 use differential::thresholds::FIXED;
 
@@ -27,11 +29,12 @@ const ANSWERS: [(&str, &[(u32, u32)]); 2] = [
     ),
 ];
 
-const SCENES: [Scene; 13] = [
+const SCENES: [Scene; 14] = [
     ("written", written),
     ("sound", sound),
     ("within the damage", within_the_damage),
     ("bad bytes in copy one", bad_in_copy_one),
+    ("worn", worn),
     ("beyond the damage", beyond_the_damage),
     ("beyond the damage", beyond_the_damage),
     ("cut", cut_short),
@@ -47,6 +50,7 @@ const SCENES: [Scene; 13] = [
 fn blocks() {
     let mut run = Run::new("blocks");
     run.play(&SCENES);
+    run.demand_every_cause(&[LOST_IN_COPY_ONE, LOST_IN_COPY_TWO]);
     run.finish(&ANSWERS);
 }
 
@@ -248,6 +252,71 @@ fn every_value() {
         }
     }
     run.finish(&[("read_block", &[(0, 0), (6, 0)])]);
+}
+
+/// Every two causes at each place, with a place before it that is bad in one copy
+/// and one after it that is lost by other causes.
+#[test]
+fn every_two_causes() {
+    let mut run = Run::new("causes of a block");
+    let mut random = run.random();
+    let n = 4;
+    let mut sound = Vec::new();
+    let block = push_block(&mut sound, &[1, 2, 3, 4], 64);
+    for place in 0..=n {
+        for one in 0..CAUSES {
+            for two in 0..CAUSES {
+                let mut pulses = sound.clone();
+                let mut bad = |copy, place: usize, cause| {
+                    make_bad(
+                        &mut random,
+                        &mut pulses[block.frame(copy, 9 + place)],
+                        cause,
+                    );
+                };
+                bad(0, place, one);
+                bad(1, place, two);
+                if place > 0 {
+                    bad(one % 2, place - 1, (one + 1) % CAUSES);
+                }
+                if place < n {
+                    bad(0, place + 1, (one + 2) % CAUSES);
+                    bad(1, place + 1, (two + 3) % CAUSES);
+                }
+                let answer = run.read_block(&mut random, &pulses, 0, n, n);
+                assert_eq!(answer, Err(lost(place, [one, two])));
+            }
+        }
+    }
+    run.demand_every_cause(&[LOST_IN_COPY_ONE, LOST_IN_COPY_TWO]);
+    run.finish(&[("read_block", &[(6, 0)])]);
+}
+
+/// The refusal for a lost place.
+fn lost(place: usize, causes: [usize; 2]) -> Refusal {
+    Refusal {
+        number: 6,
+        block: 0,
+        place,
+        causes: causes.map(|cause| cause as u32),
+    }
+}
+
+/// Bad bytes whose causes are known, and so what the reader answers.
+fn worn(run: &mut Run, random: &mut Random) {
+    let mut pulses = Vec::new();
+    let (block, payload) = placed_block(random, &mut pulses);
+    let sources = some_sources(random, block.n);
+    let places = wear_down(random, &mut pulses, block, &sources);
+    if random.once_in(2) {
+        drift(random, &mut pulses);
+    }
+    let expected = match first_lost(&places) {
+        Some((place, causes)) => Err(lost(place, causes)),
+        None => Ok(payload),
+    };
+    let answer = run.read_block(random, &pulses, block.at, block.n, block.n);
+    assert_eq!(answer.map(|(_, out)| out), expected);
 }
 
 fn written(run: &mut Run, random: &mut Random) {

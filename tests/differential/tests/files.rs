@@ -1,15 +1,16 @@
 //! The file writer and the file reader (document 01, "Headers and program
-//! files" and "Damage").
+//! files" and "Damage"), with the causes of a lost place (document 02, Q-6).
 
-use differential::compare::{Run, Scene};
+use differential::compare::{Run, Scene, LOST_IN_COPY_ONE, LOST_IN_COPY_TWO};
 use differential::random::Random;
 use differential::reference::block::{block_len, TRAILER};
-use differential::reference::byte::write_byte;
+use differential::reference::byte::{write_byte, CAUSES};
 use differential::reference::header::HEADER;
 use differential::reference::pulse::SHORT;
-use differential::reference::Header;
+use differential::reference::{Header, Refusal};
 use differential::strip::{
-    cut, damage, drift, patchwork, push_block, push_near_start, push_shorts, spoil, Placed, Program,
+    cut, damage, drift, first_lost, make_bad, patchwork, push_block, push_near_start, push_shorts,
+    some_sources, spoil, wear_down, Placed, Program,
 };
 
 const ANSWERS: [(&str, &[(u32, u32)]); 2] = [
@@ -38,10 +39,11 @@ const ANSWERS: [(&str, &[(u32, u32)]); 2] = [
     ),
 ];
 
-const SCENES: [Scene; 14] = [
+const SCENES: [Scene; 15] = [
     ("written", written),
     ("sound", sound),
     ("within the damage", within_the_damage),
+    ("worn", worn),
     ("header beyond the damage", spoiled_header),
     ("data beyond the damage", spoiled_data),
     ("data beyond the damage", spoiled_data),
@@ -59,6 +61,7 @@ const SCENES: [Scene; 14] = [
 fn files() {
     let mut run = Run::new("files");
     run.play(&SCENES);
+    run.demand_every_cause(&[LOST_IN_COPY_ONE, LOST_IN_COPY_TWO]);
     run.finish(&ANSWERS);
 }
 
@@ -161,6 +164,62 @@ fn every_type() {
         }
     }
     run.finish(&[("read_file", &[(0, 0), (2, 0), (8, 0), (9, 0)])]);
+}
+
+/// Every two causes at some place of the header block and of the data block.
+#[test]
+fn every_two_causes() {
+    let mut run = Run::new("causes of a file");
+    let mut random = run.random();
+    let mut sound = Vec::new();
+    let blocks = Program::of(&mut random, vec![1, 2, 3]).push(&mut sound);
+    for (number, block) in blocks.into_iter().enumerate() {
+        for one in 0..CAUSES {
+            for two in 0..CAUSES {
+                let place = random.within(0..=block.n);
+                let mut pulses = sound.clone();
+                for (copy, cause) in [one, two].into_iter().enumerate() {
+                    let frame = &mut pulses[block.frame(copy, 9 + place)];
+                    make_bad(&mut random, frame, cause);
+                }
+                let answer = run.read_file(&mut random, &pulses, 0, [HEADER, 3]);
+                assert_eq!(answer, Err(lost(number, place, [one, two])));
+            }
+        }
+    }
+    run.demand_every_cause(&[LOST_IN_COPY_ONE, LOST_IN_COPY_TWO]);
+    run.finish(&[("read_file", &[(6, 0), (6, 1)])]);
+}
+
+/// The refusal for a lost place.
+fn lost(block: usize, place: usize, causes: [usize; 2]) -> Refusal {
+    Refusal {
+        number: 6,
+        block: block as u32,
+        place,
+        causes: causes.map(|cause| cause as u32),
+    }
+}
+
+/// Bad bytes in both blocks whose causes are known, and so what the reader
+/// answers. In half of the files the header is sound.
+fn worn(run: &mut Run, random: &mut Random) {
+    let program = Program::random(random);
+    let mut pulses = Vec::new();
+    let blocks = program.push(&mut pulses);
+    let mut expected = Ok(program.bytes);
+    let first = random.below(2);
+    for (number, &block) in blocks.iter().enumerate().skip(first) {
+        let sources = some_sources(random, block.n);
+        let places = wear_down(random, &mut pulses, block, &sources);
+        if let (Ok(_), Some((place, causes))) = (&expected, first_lost(&places)) {
+            expected = Err(lost(number, place, causes));
+        }
+    }
+    some_drift(random, &mut pulses);
+    let n = blocks[1].n;
+    let answer = run.read_file(random, &pulses, 0, [HEADER, n]);
+    assert_eq!(answer.map(|(_, [_, data])| data), expected);
 }
 
 fn written(run: &mut Run, random: &mut Random) {

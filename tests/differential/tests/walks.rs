@@ -1,16 +1,20 @@
-//! The walk from block to block and the report (document 02, Q-1).
+//! The walk from block to block and the report (document 02, Q-1), with bad bytes
+//! counted by cause.
 
-use differential::compare::{Run, Scene};
+use differential::compare::{
+    Run, Scene, BYTES_OF_REPORTS, BYTES_OF_WALKS, LOST_IN_COPY_ONE, LOST_IN_COPY_TWO,
+};
 use differential::random::Random;
 use differential::reference::block::{copy_len, Places, SHORTS_BEFORE};
-use differential::reference::byte::PULSES;
+use differential::reference::byte::{CAUSES, PULSES};
 use differential::reference::header::HEADER;
 use differential::reference::pulse::{Class, SHORT};
-use differential::reference::wear::{MAX_PULSES, MAX_STRIPS, MAX_TOTAL};
+use differential::reference::wear::{MAX_PULSES, MAX_STRIPS, MAX_TOTAL, TOTALS};
 use differential::reference::{report_strip, Header, Refusal, Walk, Walked, Wear};
 use differential::strip::{
-    cut, damage, drift, hit, overlay, patchwork, plant_start, push_block, push_byte,
-    push_near_start, push_shorts, spoil, turn_byte, wear_down, Placed, Program, Source,
+    count_causes, cut, damage, drift, first_lost, hit, make_bad, overlay, patchwork, plant_start,
+    push_block, push_byte, push_near_start, push_shorts, some_sources, spoil, turn_byte, wear_down,
+    BadBytes, Placed, Program, Source,
 };
 
 const STEPS: [(&str, &[(u32, u32)]); 6] = [
@@ -31,7 +35,7 @@ const STEPS: [(&str, &[(u32, u32)]); 6] = [
 const REPORTS: (&str, &[(u32, u32)]) = ("report_strip", &[(0, 0), (1, 0)]);
 const REPORTED: (&str, &[(u32, u32)]) = ("report_strip", &[(0, 0)]);
 
-const MET: [&str; 14] = [
+const MET: [&str; 17] = [
     "a start inside a refused block",
     "an accepted block inside a refused one",
     "an accepted block after a refused one",
@@ -40,6 +44,9 @@ const MET: [&str; 14] = [
     "places of all kinds",
     "places lost after refusal 5",
     "places from copy two after refusal 7",
+    "bad bytes of copy two beside good ones",
+    "bad bytes after refusal 5",
+    "bad bytes after refusal 7",
     "the checksum of a header from copy two",
     "the checksum of a header lost",
     "the checksum of data from copy two",
@@ -48,8 +55,9 @@ const MET: [&str; 14] = [
     "a data block among the header's last pulses",
 ];
 
-const SCENES: [Scene; 17] = [
+const SCENES: [Scene; 18] = [
     ("several files", several_files),
+    ("a worn block", a_worn_block),
     ("a worn block", a_worn_block),
     ("a worn block", a_worn_block),
     ("refused and good", refused_and_good),
@@ -80,6 +88,7 @@ fn walks() {
     let mut run = Run::new("walks");
     run.play(&SCENES);
     run.demand(&MET);
+    run.demand_every_cause(&[BYTES_OF_WALKS, LOST_IN_COPY_ONE, LOST_IN_COPY_TWO]);
     let mut answers = STEPS.to_vec();
     answers.push(REPORTED);
     run.finish(&answers);
@@ -89,6 +98,7 @@ fn walks() {
 fn reports() {
     let mut run = Run::new("reports");
     run.play(&REPORT_SCENES);
+    run.demand_every_cause(&[BYTES_OF_REPORTS]);
     run.finish(&[REPORTS]);
 }
 
@@ -129,29 +139,186 @@ fn every_place_bad() {
     for (number, block) in blocks.into_iter().enumerate() {
         for place in 1..block.byte_places() {
             let mut pulses = sound.clone();
-            hit(&mut random, &mut pulses[block.frame(0, place)], 1);
+            let causes = [0, 1].map(|_| random.below(CAUSES));
+            let [one, two] = causes;
             let is_counted = usize::from(place >= 9);
-            let told = run.walk(&pulses);
-            assert_eq!(told[number].end, Ok(block.end()));
-            assert_eq!(told[number].places.two, is_counted);
-            hit(&mut random, &mut pulses[block.frame(1, place)], 1);
-            let told = run.walk(&pulses);
-            let refused = if place < 9 {
-                (5, place)
-            } else {
-                (6, place - 9)
+            let kept = block.n + 1 - is_counted;
+            make_bad(&mut random, &mut pulses[block.frame(0, place)], one);
+            let told = run.walk(&pulses)[number];
+            assert_eq!(told.end, Ok(block.end()));
+            let counts = [(one, is_counted)];
+            assert_eq!(told.places, worn(kept, is_counted, 0, &counts));
+            make_bad(&mut random, &mut pulses[block.frame(1, place)], two);
+            let told = run.walk(&pulses)[number];
+            let refused = match place.checked_sub(9) {
+                None => refusal((5, place), number),
+                Some(place) => lost(place, causes, number),
             };
-            assert_eq!(told[number].end, Err(refusal(refused, number)));
-            assert_eq!(
-                told[number].places,
-                taken(block.n + 1 - is_counted, 0, is_counted)
-            );
+            assert_eq!(told.end, Err(refused));
+            let counts = [(one, is_counted), (two, is_counted)];
+            assert_eq!(told.places, worn(kept, 0, is_counted, &counts));
         }
     }
     run.finish(&[
         ("walk_block, a program's header", &[(0, 0)]),
         ("walk_block, a header", &[(3, 0), (4, 0), (5, 0), (6, 0)]),
         ("walk_block, data", &[(0, 0), (5, 1), (6, 1)]),
+        REPORTED,
+    ]);
+}
+
+/// Bad bytes of a data block of four bytes, each as its copy, its byte place and
+/// its cause, and what is told of the block: places 9 to 12 are its payload, 13
+/// is the checksum, and those before are the countdown.
+#[test]
+fn bad_bytes_of_a_block() {
+    type Bad<'a> = &'a [(usize, usize, usize)];
+    let cases: [(Bad, Result<(), Refusal>, Places); 16] = [
+        (&[], Ok(()), worn(5, 0, 0, &[])),
+        // Copy one's cause, where the place is taken from copy two.
+        (&[(0, 10, 4)], Ok(()), worn(4, 1, 0, &[(4, 1)])),
+        (&[(0, 13, 10)], Ok(()), worn(4, 1, 0, &[(10, 1)])),
+        // Copy two's cause, where the place is taken from copy one.
+        (&[(1, 10, 4)], Ok(()), worn(5, 0, 0, &[(4, 1)])),
+        (&[(1, 13, 9)], Ok(()), worn(5, 0, 0, &[(9, 1)])),
+        (
+            &[(0, 9, 0), (1, 10, 0), (0, 12, 10), (1, 11, 7)],
+            Ok(()),
+            worn(3, 2, 0, &[(0, 2), (7, 1), (10, 1)]),
+        ),
+        // A lost place has two bad bytes.
+        (
+            &[(0, 10, 4), (1, 10, 7)],
+            Err(lost(1, [4, 7], 1)),
+            worn(4, 0, 1, &[(4, 1), (7, 1)]),
+        ),
+        (
+            &[(0, 9, 6), (1, 9, 6)],
+            Err(lost(0, [6, 6], 1)),
+            worn(4, 0, 1, &[(6, 2)]),
+        ),
+        (
+            &[(0, 13, 10), (1, 13, 0)],
+            Err(lost(4, [10, 0], 1)),
+            worn(4, 0, 1, &[(0, 1), (10, 1)]),
+        ),
+        // All are counted after the first lost place.
+        (
+            &[(0, 12, 1), (1, 12, 2), (0, 11, 3), (1, 11, 5), (0, 13, 3)],
+            Err(lost(2, [3, 5], 1)),
+            worn(2, 1, 2, &[(1, 1), (2, 1), (3, 2), (5, 1)]),
+        ),
+        (
+            &[(0, 10, 8), (1, 10, 9), (1, 13, 9)],
+            Err(lost(1, [8, 9], 1)),
+            worn(4, 0, 1, &[(8, 1), (9, 2)]),
+        ),
+        // Countdown bytes are not counted.
+        (&[(0, 3, 2), (1, 5, 10)], Ok(()), worn(5, 0, 0, &[])),
+        (
+            &[(0, 3, 2), (1, 3, 6)],
+            Err(refusal((5, 3), 1)),
+            worn(5, 0, 0, &[]),
+        ),
+        // The places after a wrong countdown are.
+        (
+            &[(0, 8, 2), (1, 8, 6), (0, 9, 10), (1, 11, 3)],
+            Err(refusal((5, 8), 1)),
+            worn(4, 1, 0, &[(3, 1), (10, 1)]),
+        ),
+        (
+            &[(0, 1, 0), (1, 1, 0), (0, 12, 0), (1, 12, 9), (0, 8, 5)],
+            Err(refusal((5, 1), 1)),
+            worn(4, 0, 1, &[(0, 1), (9, 1)]),
+        ),
+        (
+            &[(1, 0, 3), (1, 8, 3), (1, 9, 10), (1, 12, 10), (1, 13, 10)],
+            Ok(()),
+            worn(5, 0, 0, &[(10, 3)]),
+        ),
+    ];
+    let mut run = Run::new("bad bytes of a block");
+    let mut random = run.random();
+    let mut sound = Vec::new();
+    let [_, data] = Program::of(&mut random, vec![1, 2, 3, 4]).push(&mut sound);
+    for (bad, answer, places) in cases {
+        let mut pulses = sound.clone();
+        for &(copy, place, cause) in bad {
+            make_bad(&mut random, &mut pulses[data.frame(copy, place)], cause);
+        }
+        let told = run.walk(&pulses);
+        assert_eq!(told[0].places, worn(193, 0, 0, &[]));
+        assert_eq!(told[1].end.map(|_| ()), answer, "{bad:?}");
+        assert_eq!(told[1].places, places, "{bad:?}");
+        let cut = run.walk(&pulses[..data.end() - 1]);
+        let refused = refusal((4, data.start()), 1);
+        assert_eq!(
+            (cut[1].end, cut[1].places),
+            (Err(refused), Places::default())
+        );
+    }
+    run.finish(&[
+        ("walk_block, a program's header", &[(0, 0)]),
+        ("walk_block, a header", &[(3, 0)]),
+        ("walk_block, data", &[(0, 0), (4, 1), (5, 1), (6, 1)]),
+        REPORTED,
+    ]);
+}
+
+/// A wrong checksum, where other bytes are bad.
+#[test]
+fn bad_bytes_beside_a_wrong_checksum() {
+    let mut run = Run::new("bad bytes beside a wrong checksum");
+    let mut random = run.random();
+    let mut pulses = Vec::new();
+    let blocks = Program::of(&mut random, vec![1, 2, 3, 4]).push(&mut pulses);
+    for block in blocks {
+        turn_byte(&mut random, &mut pulses, block, 0, 0);
+        for (copy, place, cause) in [(1, 9, 8), (0, 11, 9), (0, 12, 8), (1, 7, 8)] {
+            make_bad(&mut random, &mut pulses[block.frame(copy, place)], cause);
+        }
+    }
+    for (number, block) in blocks.into_iter().enumerate() {
+        let from = block.at;
+        let length = number * block.n;
+        let told = run.walk_on(&pulses, Walk { from, length })[0];
+        assert_eq!(told.end, Err(refusal((7, block.n), number)));
+        let places = worn(block.n - 1, 2, 0, &[(8, 2), (9, 1)]);
+        assert_eq!(told.places, places);
+    }
+    run.finish(&[
+        ("walk_block, a header", &[(3, 0), (4, 0), (7, 0)]),
+        ("walk_block, data", &[(7, 1)]),
+    ]);
+}
+
+/// Every byte of payload and checksum bad in both copies, by every cause in
+/// turn, in a header block and in a data block.
+#[test]
+fn every_byte_bad() {
+    let mut run = Run::new("every byte bad");
+    let mut random = run.random();
+    let mut sound = Vec::new();
+    let blocks = Program::of(&mut random, vec![7; 21]).push(&mut sound);
+    for (number, block) in blocks.into_iter().enumerate() {
+        let mut pulses = sound.clone();
+        let mut counts = [0; CAUSES];
+        for (i, place) in (9..block.byte_places()).enumerate() {
+            for (copy, cause) in [(0, (i + 4) % CAUSES), (1, (3 * i + 7) % CAUSES)] {
+                make_bad(&mut random, &mut pulses[block.frame(copy, place)], cause);
+                counts[cause] += 1;
+            }
+        }
+        let told = run.walk(&pulses)[number];
+        assert_eq!(told.end, Err(lost(0, [4, 7], number)));
+        assert_eq!(told.places, with_causes(taken(0, 0, block.n + 1), counts));
+        assert!(counts.iter().all(|&count| count > 0));
+        assert_eq!(counts.iter().sum::<usize>(), 2 * (block.n + 1));
+    }
+    run.finish(&[
+        ("walk_block, a program's header", &[(0, 0)]),
+        ("walk_block, a header", &[(3, 0), (4, 0), (6, 0)]),
+        ("walk_block, data", &[(6, 1)]),
         REPORTED,
     ]);
 }
@@ -264,9 +431,9 @@ fn limits_of_the_totals() {
         .flat_map(|limit| [limit - 2, limit - 1, *limit, limit + 1])
         .collect();
     totals.extend([0, 1, u64::MAX - 1, u64::MAX]);
-    for i in 0..8 {
+    for i in 0..TOTALS {
         for &total in &totals {
-            let mut numbers = [0; 8];
+            let mut numbers = [0; TOTALS];
             numbers[i] = total;
             for pulses in [&[][..], &file, &too_long] {
                 let answer = run.report_strip(numbers.into(), pulses);
@@ -286,12 +453,17 @@ fn totals_above_the_limit() {
     let mut run = Run::new("totals above the limit");
     let mut random = run.random();
     let mut pulses = Vec::new();
-    let [_, data] = Program::of(&mut random, vec![1, 2]).push(&mut pulses);
-    let sources = [Source::One, Source::Two, Source::Lost];
-    wear_down(&mut random, &mut pulses, data, &sources);
+    let [_, data] = Program::of(&mut random, vec![1; CAUSES + 1]).push(&mut pulses);
+    for cause in 0..CAUSES {
+        let frame = data.frame(cause % 2, 9 + cause);
+        make_bad(&mut random, &mut pulses[frame], cause);
+    }
+    for copy in 0..2 {
+        make_bad(&mut random, &mut pulses[data.frame(copy, 9 + CAUSES)], 0);
+    }
     pulses.push(0);
-    for i in 1..8 {
-        let mut numbers = [0; 8];
+    for i in 1..TOTALS {
+        let mut numbers = [0; TOTALS];
         numbers[i] = MAX_TOTAL;
         let totals = run
             .report_strip(numbers.into(), &pulses)
@@ -447,11 +619,38 @@ fn refusal((number, place): (u32, usize), block: usize) -> Refusal {
         number,
         block: block as u32,
         place,
+        causes: [0, 0],
+    }
+}
+
+/// The refusal for a lost place.
+fn lost(place: usize, causes: [usize; 2], block: usize) -> Refusal {
+    Refusal {
+        causes: causes.map(|cause| cause as u32),
+        ..refusal((6, place), block)
     }
 }
 
 fn taken(one: usize, two: usize, lost: usize) -> Places {
-    Places { one, two, lost }
+    Places {
+        one,
+        two,
+        lost,
+        causes: [0; CAUSES],
+    }
+}
+
+fn with_causes(places: Places, causes: [usize; CAUSES]) -> Places {
+    Places { causes, ..places }
+}
+
+/// Places, and bad bytes by their causes and how many there are of each.
+fn worn(one: usize, two: usize, lost: usize, bad: &[(usize, usize)]) -> Places {
+    let mut causes = [0; CAUSES];
+    for &(cause, count) in bad {
+        causes[cause] += count;
+    }
+    with_causes(taken(one, two, lost), causes)
 }
 
 /// Demands that a walk tells these blocks as accepted, and no other.
@@ -497,26 +696,6 @@ fn several_files(run: &mut Run, random: &mut Random) {
     assert!(told.iter().all(|walked| walked.places.lost == 0));
 }
 
-/// Sources for the places 0 to n of a block.
-fn some_sources(random: &mut Random, n: usize) -> Vec<Source> {
-    let seldom = random.pick(&[2, 10, 100]);
-    let worn: &[Source] = match random.below(3) {
-        0 => &[Source::Two, Source::Lost],
-        1 => &[Source::Lost],
-        _ => &[Source::Two],
-    };
-    let mut sources: Vec<Source> = (0..=n)
-        .map(|_| match random.once_in(seldom) {
-            true => random.pick(worn),
-            false => Source::One,
-        })
-        .collect();
-    if random.once_in(3) {
-        sources[n] = random.pick(worn);
-    }
-    sources
-}
-
 /// What goes wrong in a block beside the bad bytes.
 enum Fault {
     None,
@@ -552,16 +731,14 @@ fn answer_for(
     block: Placed,
     number: usize,
     fault: &Fault,
-    sources: &[Source],
+    bad: &[BadBytes],
 ) -> Result<usize, Refusal> {
-    let lost = sources.iter().position(|&source| source == Source::Lost);
-    let refused = match (fault, lost) {
-        (Fault::Countdown(place), _) => (5, *place),
-        (_, Some(place)) => (6, place),
-        (Fault::Value, _) => (7, block.n),
-        _ => return Ok(block.end()),
-    };
-    Err(refusal(refused, number))
+    match (fault, first_lost(bad)) {
+        (Fault::Countdown(place), _) => Err(refusal((5, *place), number)),
+        (_, Some((place, causes))) => Err(lost(place, causes, number)),
+        (Fault::Value, _) => Err(refusal((7, block.n), number)),
+        _ => Ok(block.end()),
+    }
 }
 
 /// A header or a data block whose bad bytes are known, and so all that the walk
@@ -572,14 +749,15 @@ fn a_worn_block(run: &mut Run, random: &mut Random) {
     let number = random.below(2);
     let block = blocks[number];
     let sources = some_sources(random, block.n);
-    wear_down(random, &mut pulses, block, &sources);
+    let bad = wear_down(random, &mut pulses, block, &sources);
     let fault = some_fault(random, &mut pulses, block, &sources);
     some_drift(random, &mut pulses);
     let told = run.walk(&pulses)[number];
     let count = |wanted| sources.iter().filter(|&&source| source == wanted).count();
     let [one, two, lost] = [Source::One, Source::Two, Source::Lost].map(count);
-    assert_eq!(told.places, taken(one, two, lost));
-    assert_eq!(told.end, answer_for(block, number, &fault, &sources));
+    let places = with_causes(taken(one, two, lost), count_causes(&bad));
+    assert_eq!(told.places, places);
+    assert_eq!(told.end, answer_for(block, number, &fault, &bad));
     meet_checksum(run, number, sources[block.n]);
 }
 
@@ -860,8 +1038,13 @@ fn some_strip(random: &mut Random) -> Vec<u32> {
             for block in blocks {
                 damage(random, &mut pulses, block);
             }
-            if random.once_in(2) {
-                spoil(random, &mut pulses, blocks[1]);
+            match random.below(4) {
+                0 | 1 => spoil(random, &mut pulses, blocks[1]),
+                2 => {
+                    let sources = some_sources(random, blocks[1].n);
+                    wear_down(random, &mut pulses, blocks[1], &sources);
+                }
+                _ => {}
             }
         }
     }
@@ -870,7 +1053,7 @@ fn some_strip(random: &mut Random) -> Vec<u32> {
 
 /// Totals that are taken, whatever they say of each other.
 fn some_totals(random: &mut Random) -> Wear {
-    let mut numbers = [0; 8].map(|_: u64| match random.below(4) {
+    let mut numbers = [0; TOTALS].map(|_: u64| match random.below(4) {
         0 => 0,
         1 => MAX_TOTAL - random.below(3) as u64,
         2 => random.below(1_000_000) as u64,
@@ -885,7 +1068,7 @@ fn some_totals(random: &mut Random) -> Wear {
 fn large_totals(random: &mut Random, count: usize) -> Wear {
     let mut numbers = some_totals(random).numbers();
     for _ in 0..count {
-        let i = random.below(8);
+        let i = random.below(TOTALS);
         numbers[i] = match random.below(4) {
             0 => MAX_TOTAL + 1,
             1 => u64::MAX - random.below(3) as u64,
@@ -901,7 +1084,7 @@ fn large_totals(random: &mut Random, count: usize) -> Wear {
 /// gives by itself.
 fn handed_on(run: &mut Run, random: &mut Random) {
     let mut totals = Wear::default();
-    let mut sums = [0; 8];
+    let mut sums = [0; TOTALS];
     for _ in 0..random.within(2..=6) {
         let pulses = some_strip(random);
         totals = run

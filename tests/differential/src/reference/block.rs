@@ -1,6 +1,6 @@
 //! Blocks recorded twice (document 01, "Blocks" and "Reading a block").
 
-use super::byte::{read_byte, write_byte, Frame, PULSES};
+use super::byte::{cause_of, value_of, value_or_cause, write_byte, Frame, CAUSES, PULSES};
 use super::pulse::{Class, LONG, SHORT};
 use super::{refusal, Refusal};
 
@@ -39,6 +39,8 @@ pub struct Places {
     pub one: usize,
     pub two: usize,
     pub lost: usize,
+    /// The bad bytes at these places, of both copies together, by cause.
+    pub causes: [usize; CAUSES],
 }
 
 /// The bytes of a block's two copies, and the place after copy two.
@@ -197,15 +199,14 @@ pub(super) fn find_start(pulses: &[u32], from: usize) -> Option<usize> {
 }
 
 fn is_sync(strip: &[u32]) -> bool {
-    strip.first_chunk().and_then(read_byte) == Some(SYNC)
+    strip.first_chunk().and_then(value_of) == Some(SYNC)
 }
 
 /// Rule 3: at each countdown place one copy holds its own expected value.
 fn check_countdowns([one, two]: [&[Frame]; 2]) -> Result<(), Refusal> {
     let [expected_one, expected_two] = COUNTDOWNS;
     for i in 0..expected_one.len() {
-        if read_byte(&one[i]) != Some(expected_one[i])
-            && read_byte(&two[i]) != Some(expected_two[i])
+        if value_of(&one[i]) != Some(expected_one[i]) && value_of(&two[i]) != Some(expected_two[i])
         {
             return Err(Refusal::at(refusal::COUNTDOWN, i));
         }
@@ -218,9 +219,9 @@ fn check_countdowns([one, two]: [&[Frame]; 2]) -> Result<(), Refusal> {
 fn decode_values([one, two]: [&[Frame]; 2], payload: &mut [u8]) -> Result<(), Refusal> {
     let n = payload.len();
     let value_at = |i: usize| {
-        read_byte(&one[i])
-            .or_else(|| read_byte(&two[i]))
-            .ok_or(Refusal::at(refusal::LOST, i))
+        value_of(&one[i])
+            .or_else(|| value_of(&two[i]))
+            .ok_or_else(|| lost_place(i, [&one[i], &two[i]]))
     };
     let mut sum = 0;
     for (i, byte) in payload.iter_mut().enumerate() {
@@ -234,7 +235,15 @@ fn decode_values([one, two]: [&[Frame]; 2], payload: &mut [u8]) -> Result<(), Re
     }
 }
 
-/// Rules 4 and 5 like [`decode_values`], with all places counted.
+/// The refusal for a place whose byte is bad in both copies. It stays out of the
+/// loop over the places.
+#[inline(never)]
+fn lost_place(place: usize, copies: [&Frame; 2]) -> Refusal {
+    Refusal::lost(place, copies.map(cause_of))
+}
+
+/// Rules 4 and 5 like [`decode_values`], with all places and all bad bytes
+/// counted.
 fn count_values([one, two]: [&[Frame]; 2], payload: &mut [u8]) -> (Result<(), Refusal>, Places) {
     let n = payload.len();
     let mut places = Places::default();
@@ -242,16 +251,24 @@ fn count_values([one, two]: [&[Frame]; 2], payload: &mut [u8]) -> (Result<(), Re
     // The XOR of the payload and its checksum, which is 0 where they fit.
     let mut sum = 0;
     for (i, (one, two)) in one.iter().zip(two).enumerate() {
-        let value = if let Some(value) = read_byte(one) {
-            places.one += 1;
-            value
-        } else if let Some(value) = read_byte(two) {
-            places.two += 1;
-            value
-        } else {
-            places.lost += 1;
-            first_lost = first_lost.or(Some(i));
-            continue;
+        let bytes = [value_or_cause(one), value_or_cause(two)];
+        for cause in bytes.iter().filter_map(|byte| byte.err()) {
+            places.causes[cause] += 1;
+        }
+        let value = match bytes {
+            [Ok(value), _] => {
+                places.one += 1;
+                value
+            }
+            [Err(_), Ok(value)] => {
+                places.two += 1;
+                value
+            }
+            [Err(one), Err(two)] => {
+                places.lost += 1;
+                first_lost = first_lost.or(Some(Refusal::lost(i, [one, two])));
+                continue;
+            }
         };
         sum ^= value;
         if let Some(byte) = payload.get_mut(i) {
@@ -259,7 +276,7 @@ fn count_values([one, two]: [&[Frame]; 2], payload: &mut [u8]) -> (Result<(), Re
         }
     }
     let answer = match first_lost {
-        Some(place) => Err(Refusal::at(refusal::LOST, place)),
+        Some(refusal) => Err(refusal),
         None if sum != 0 => Err(Refusal::at(refusal::CHECKSUM, n)),
         None => Ok(()),
     };
@@ -428,9 +445,29 @@ mod tests {
             pulses[64 + i * PULSES] = SHORT;
             assert_eq!(read(&pulses, 0, n, n), Ok(vec![1, 2, 3]));
             pulses[64 + two + i * PULSES + 7] = 0;
-            let expected = if i < 9 { (5, i) } else { (6, i - 9) };
-            assert_eq!(read(&pulses, 0, n, n), refused(expected.0, expected.1));
+            let expected = match i.checked_sub(9) {
+                None => refused(5, i),
+                Some(place) => Err(Refusal::lost(place, [0, 3])),
+            };
+            assert_eq!(read(&pulses, 0, n, n), expected);
         }
+    }
+
+    #[test]
+    fn the_first_lost_place_has_the_causes_of_both_copies() {
+        let two = copy_len(3) + TRAILER;
+        let mut pulses = strip(&[1, 2, 3], 64);
+        pulses[64 + 9 * PULSES] = 0;
+        pulses[64 + two + 12 * PULSES] = 0;
+        pulses.swap(64 + 10 * PULSES + 2, 64 + 10 * PULSES + 3);
+        assert_eq!(read(&pulses, 0, 3, 3), Ok(vec![1, 2, 3]));
+        pulses[64 + 12 * PULSES + 19] = LONG;
+        let expected = Err(Refusal::lost(3, [9, 0]));
+        assert_eq!(read(&pulses, 0, 3, 3), expected);
+        pulses[64 + two + 10 * PULSES + 4] = 0;
+        pulses[64 + two + 10 * PULSES + 18] = 0;
+        let expected = Err(Refusal::lost(1, [10, 2]));
+        assert_eq!(read(&pulses, 0, 3, 3), expected);
     }
 
     #[test]

@@ -122,7 +122,12 @@ mod tests {
             number,
             block,
             place,
+            causes: [0, 0],
         })
+    }
+
+    fn lost<T>(block: u32, place: usize, causes: [u32; 2]) -> Result<T, Refusal> {
+        refused(6, block, place).map_err(|refusal| Refusal { causes, ..refusal })
     }
 
     #[test]
@@ -203,8 +208,8 @@ mod tests {
         let start = HEADER_LEN + 64;
         let mut bad_header = sound.clone();
         bad_header[64 + 20 * 9] = 0;
-        bad_header[64 + 20 * 202 + 61 + 20 * 9] = 0;
-        assert_eq!(read(&bad_header, [0, 0]), refused(6, 0, 0));
+        bad_header[64 + 20 * 202 + 61 + 20 * 9 + 12] = 0;
+        assert_eq!(read(&bad_header, [0, 0]), lost(0, 0, [0, 6]));
         let type_2 = Header { kind: 2, ..GAME };
         let wrong_end = Header { end: 0, ..type_2 };
         assert_eq!(
@@ -230,13 +235,13 @@ mod tests {
         let two = start + 20 * 26 + 61;
         for i in 1..26 {
             let mut pulses = sound.clone();
-            pulses[start + 20 * i] = 0;
+            pulses[start + 20 * i + 9] = 0;
             assert!(read(&pulses, [192, 16]).is_ok());
             pulses[two + 20 * i] = 0;
             let countdown = COUNTDOWNS[0].len();
             let expected = match i.checked_sub(countdown) {
                 None => refused(5, 1, i),
-                Some(place) => refused(6, 1, place),
+                Some(place) => lost(1, place, [4, 0]),
             };
             assert_eq!(read(&pulses, [192, 16]), expected);
         }

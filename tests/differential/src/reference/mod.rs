@@ -1,6 +1,6 @@
 //! An independent implementation of document 01: the tapes that the C64
 //! writes with SAVE, from pulses up to program files, and TAP files; and of
-//! the walk and the report of document 02, Q-1.
+//! document 02's walk and report, Q-1, and causes of bad bytes, Q-6.
 //!
 //! Each call takes the slices and numbers of the library's call of the same
 //! name. A refused call leaves every lent buffer as it was; an accepted one
@@ -15,6 +15,7 @@ pub mod tap;
 pub mod wear;
 
 pub use block::{read_block, write_block, BlockRead};
+pub use byte::read_byte;
 pub use file::{read_file, write_file, FileRead};
 pub use header::{pack_header, shown_name, unpack_header, Header, Span};
 pub use tap::{read_tap, write_tap, TapRead};
@@ -29,6 +30,9 @@ pub struct Refusal {
     pub block: u32,
     /// Where, in the terms of that refusal; 0 where the table names none.
     pub place: usize,
+    /// Why copy one's byte and copy two's are bad at a lost place; 0 and 0 with
+    /// any other refusal.
+    pub causes: [u32; 2],
 }
 
 impl Refusal {
@@ -43,6 +47,15 @@ impl Refusal {
             number,
             block: 0,
             place,
+            causes: [0, 0],
+        }
+    }
+
+    /// The refusal for a lost place.
+    fn lost(place: usize, causes: [usize; 2]) -> Self {
+        Self {
+            causes: causes.map(|cause| cause as u32),
+            ..Self::at(refusal::LOST, place)
         }
     }
 

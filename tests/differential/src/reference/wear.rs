@@ -1,9 +1,10 @@
 //! How worn strips are: a walk from block to block, and a report over many
-//! strips (document 02, Q-1).
+//! strips (document 02, Q-1), with bad bytes counted by cause.
 
 use std::iter;
 
 use super::block::{find_start, look_at_block, BlockRead, Places, MAX_PAYLOAD};
+use super::byte::CAUSES;
 use super::file::check_program;
 use super::header::{header_fields, HEADER};
 use super::pulse::Class;
@@ -17,6 +18,12 @@ pub const MAX_PULSES: usize = 1_048_576;
 
 /// The largest total that a report goes on from.
 pub const MAX_TOTAL: u64 = 1_000_000_000_000;
+
+/// How many totals come before those of the causes.
+const BEFORE_CAUSES: usize = 8;
+
+/// How many totals a report has.
+pub const TOTALS: usize = BEFORE_CAUSES + CAUSES;
 
 /// Where a walk stands: the place to look for a start from, and how many bytes
 /// are tried as a data block, or 0 where a header is tried. It begins with 0
@@ -39,8 +46,9 @@ pub struct Walked {
     pub next: Walk,
 }
 
-/// The totals of a report: strips, pulses of each class, and places of payload
-/// and checksum taken from copy one, from copy two, and lost.
+/// The totals of a report: strips, pulses of each class, places of payload and
+/// checksum taken from copy one, from copy two, and lost, and the bad bytes
+/// there by cause.
 #[derive(Clone, Copy, Debug, Default, PartialEq, Eq)]
 pub struct Wear {
     pub strips: u64,
@@ -51,6 +59,7 @@ pub struct Wear {
     pub one: u64,
     pub two: u64,
     pub lost: u64,
+    pub causes: [u64; CAUSES],
 }
 
 /// One step of a walk: the first block at or after its place.
@@ -134,8 +143,10 @@ fn walked(
 
 impl Wear {
     /// The totals in their order.
-    pub fn numbers(self) -> [u64; 8] {
-        [
+    pub fn numbers(self) -> [u64; TOTALS] {
+        let mut numbers = [0; TOTALS];
+        let (first, causes) = numbers.split_at_mut(BEFORE_CAUSES);
+        first.copy_from_slice(&[
             self.strips,
             self.shorts,
             self.mediums,
@@ -144,7 +155,9 @@ impl Wear {
             self.one,
             self.two,
             self.lost,
-        ]
+        ]);
+        causes.copy_from_slice(&self.causes);
+        numbers
     }
 
     /// Adds the pulses of each class. A strip has few enough for 32 bits.
@@ -163,17 +176,20 @@ impl Wear {
         self.noises += u64::from(noises);
     }
 
-    /// Adds the places of a block.
+    /// Adds the places of a block, and its bad bytes.
     fn add_places(&mut self, places: Places) {
         self.one += places.one as u64;
         self.two += places.two as u64;
         self.lost += places.lost as u64;
+        for (total, count) in self.causes.iter_mut().zip(places.causes) {
+            *total += count as u64;
+        }
     }
 }
 
-impl From<[u64; 8]> for Wear {
-    fn from(numbers: [u64; 8]) -> Self {
-        let [strips, shorts, mediums, longs, noises, one, two, lost] = numbers;
+impl From<[u64; TOTALS]> for Wear {
+    fn from(numbers: [u64; TOTALS]) -> Self {
+        let [strips, shorts, mediums, longs, noises, one, two, lost, causes @ ..] = numbers;
         Self {
             strips,
             shorts,
@@ -183,6 +199,7 @@ impl From<[u64; 8]> for Wear {
             one,
             two,
             lost,
+            causes,
         }
     }
 }
@@ -228,13 +245,28 @@ mod tests {
     }
 
     fn taken(one: usize, two: usize, lost: usize) -> Places {
-        Places { one, two, lost }
+        Places {
+            one,
+            two,
+            lost,
+            ..Places::default()
+        }
     }
 
-    /// Makes bytes of a copy bad, by their places among payload and checksum.
-    fn lose(pulses: &mut [u32], copy: usize, places: &[usize]) {
-        for place in places {
-            pulses[copy + PULSES * (COUNTDOWN + place)] = 0;
+    /// Counts of bad bytes from the causes that there are, and how many of each.
+    fn counts(causes: &[(usize, usize)]) -> [usize; CAUSES] {
+        let mut counts = [0; CAUSES];
+        for &(cause, count) in causes {
+            counts[cause] = count;
+        }
+        counts
+    }
+
+    /// Makes bytes of a copy bad, by their places among payload and checksum and
+    /// the pair that is wrong.
+    fn lose(pulses: &mut [u32], copy: usize, bytes: &[(usize, usize)]) {
+        for (place, pair) in bytes {
+            pulses[copy + PULSES * (COUNTDOWN + place) + 2 * pair + 1] = 0;
         }
     }
 
@@ -273,12 +305,20 @@ mod tests {
     fn places_are_counted_to_the_end() {
         let mut strip = file(&[1, 2, 3]);
         let two = DATA_START + copy_len(3) + TRAILER;
-        lose(&mut strip, DATA_START, &[0, 1, 3]);
-        assert_eq!(blocks(&strip)[1].places, taken(1, 3, 0));
-        lose(&mut strip, two, &[1, 2, 3]);
+        lose(&mut strip, DATA_START, &[(0, 4), (1, 9), (3, 4)]);
+        let repaired = Places {
+            causes: counts(&[(4, 2), (9, 1)]),
+            ..taken(1, 3, 0)
+        };
+        assert_eq!(blocks(&strip)[1].places, repaired);
+        lose(&mut strip, two, &[(1, 4), (2, 0), (3, 7)]);
+        let places = Places {
+            causes: counts(&[(0, 1), (4, 3), (7, 1), (9, 1)]),
+            ..taken(1, 1, 2)
+        };
         let refused = blocks(&strip)[1];
-        assert_eq!(refused.places, taken(1, 1, 2));
-        assert_eq!(refused.end, Err(Refusal::at(6, 1).of_data()));
+        assert_eq!(refused.places, places);
+        assert_eq!(refused.end, Err(Refusal::lost(1, [9, 4]).of_data()));
         let next = Walk {
             from: DATA_START + 1,
             length: 0,
@@ -288,7 +328,7 @@ mod tests {
             strip[copy + PULSES] = 0;
         }
         let refused = blocks(&strip)[1];
-        assert_eq!(refused.places, taken(1, 1, 2));
+        assert_eq!(refused.places, places);
         assert_eq!(refused.end, Err(Refusal::at(5, 1).of_data()));
         let refused = blocks(&strip[..two])[1];
         assert_eq!(refused.places, taken(0, 0, 0));
@@ -362,12 +402,13 @@ mod tests {
     #[test]
     fn totals_are_handed_on() {
         let mut strip = file(&[1, 2, 3]);
-        lose(&mut strip, DATA_START, &[0]);
+        lose(&mut strip, DATA_START, &[(0, 8)]);
         let first = report_strip(Wear::default(), &strip).unwrap();
         let classes = [first.shorts, first.mediums, first.longs, first.noises];
         assert_eq!(classes.iter().sum::<u64>(), strip.len() as u64);
         assert_eq!((first.strips, first.noises), (1, 1));
         assert_eq!((first.one, first.two, first.lost), (196, 1, 0));
+        assert_eq!(first.causes, [0, 0, 0, 0, 0, 0, 0, 0, 1, 0, 0]);
         let second = report_strip(first, &strip).unwrap();
         assert_eq!(second.numbers(), first.numbers().map(|total| 2 * total));
         let third = report_strip(second, &[]).unwrap();
@@ -389,8 +430,8 @@ mod tests {
         };
         assert_eq!(report_strip(strips(999), &[]), Ok(strips(1000)));
         assert_eq!(report_strip(strips(1000), &[]), refused);
-        for i in 1..8 {
-            let mut numbers = [0; 8];
+        for i in 1..TOTALS {
+            let mut numbers = [0; TOTALS];
             numbers[i] = 1_000_000_000_000;
             assert!(report_strip(numbers.into(), &[]).is_ok());
             numbers[i] += 1;

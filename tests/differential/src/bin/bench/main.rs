@@ -12,11 +12,11 @@ use std::hint::black_box;
 use differential::random::Random;
 use differential::readers::Tally;
 use differential::reference::block::block_len;
-use differential::reference::byte::read_byte;
+use differential::reference::byte::{value_of, CAUSES, PULSES};
 use differential::reference::pulse::{LONG, MEDIUM, SHORT};
 use differential::reference::{Header, Wear};
 use differential::strip::{
-    drift, places_to_spoil, push_block, push_byte, push_shorts, Placed, Program,
+    drift, make_bad, places_to_spoil, push_block, push_byte, push_shorts, Placed, Program,
 };
 use differential::thresholds::FIXED;
 use differential::{library, readers, reference};
@@ -40,7 +40,8 @@ fn main() {
     let store = env::args().any(|argument| argument == "--store");
     println!("ns a call, the quickest of {ROUNDS} rounds; both built for release, random payload, pulses drifted within their class.");
     println!("Buffers are not cleared between calls. A bad byte of copy one has a noise pulse; the first byte is never bad.");
-    println!("Reports are of three files of 8192 bytes and short pulses to the strip's end, of the same with bad bytes in both copies, and of random pulses.");
+    println!("Reports are of three files of 8192 bytes and short pulses to the strip's end, of the same with bad bytes in both copies, of the same with every byte of the");
+    println!("data blocks bad in both copies, but for the countdown, by causes at random, and of random pulses. Single bytes are those of a strip, a call for each.");
     println!(
         "After the ratio: what is left of the stored one, FELL where that is less than {KEPT}."
     );
@@ -61,6 +62,7 @@ fn main() {
     }
     taps(&mut sheet, &mut random);
     reports(&mut sheet, &mut random);
+    single_bytes(&mut sheet, &mut random, 8192);
     sheet.finish();
     if store {
         sheet.store();
@@ -130,7 +132,7 @@ fn no_start(sheet: &mut Sheet, random: &mut Random) {
 /// not change with the rows.
 #[inline(never)]
 fn tally(pulses: &[u32]) -> Tally {
-    Tally::by(read_byte, pulses)
+    Tally::by(value_of, pulses)
 }
 
 /// Byte reading where a program calls it from several places: two loops over
@@ -239,7 +241,7 @@ fn tap(sheet: &mut Sheet, name: &str, pulses: &[u32]) {
 }
 
 /// Reports of a strip full of files, of the same with bad bytes in both copies,
-/// and of random pulses.
+/// of the same with every byte of the data blocks bad, and of random pulses.
 fn reports(sheet: &mut Sheet, random: &mut Random) {
     let mut pulses = Vec::new();
     let blocks = fill_with_files(random, &mut pulses);
@@ -247,6 +249,7 @@ fn reports(sheet: &mut Sheet, random: &mut Random) {
     let places: usize = blocks.iter().map(|block| block.n + 1).sum();
     let totals = report(sheet, "sound", &pulses);
     assert_eq!((totals.one, totals.two, totals.lost), (places as u64, 0, 0));
+    let mut all_bad = pulses.clone();
     for &block in &blocks {
         for copy in 0..2 {
             spoil_copy(random, &mut pulses, block, copy, 1);
@@ -254,8 +257,30 @@ fn reports(sheet: &mut Sheet, random: &mut Random) {
     }
     let totals = report(sheet, "bad-1%", &pulses);
     assert!(totals.two > 0 && totals.lost > 0);
+    let lost = lose_data(&mut all_bad, &blocks);
+    let totals = report(sheet, "all-bad", &all_bad);
+    assert_eq!((totals.two, totals.lost), (0, lost as u64));
+    assert_eq!(totals.causes.iter().sum::<u64>(), 2 * totals.lost);
     let pulses: Vec<u32> = (0..MANY).map(|_| random.any_pulse()).collect();
     report(sheet, "random", &pulses);
+}
+
+/// Makes every byte of payload and checksum bad in both copies of the data
+/// blocks, by any cause, and answers how many places are lost. The headers stay
+/// sound: no data block is tried after a bad one.
+fn lose_data(pulses: &mut [u32], blocks: &[Placed]) -> usize {
+    let mut random = Random::new(SEED, 1);
+    let mut lost = 0;
+    for block in blocks.iter().filter(|block| block.n != 192) {
+        for place in 9..block.byte_places() {
+            for copy in 0..2 {
+                let cause = random.below(CAUSES);
+                make_bad(&mut random, &mut pulses[block.frame(copy, place)], cause);
+            }
+            lost += 1;
+        }
+    }
+    lost
 }
 
 /// As many files of the longest program as the strip holds, and short pulses.
@@ -285,4 +310,34 @@ fn report(sheet: &mut Sheet, name: &str, pulses: &[u32]) -> Wear {
         || reference::report_strip(Wear::default(), black_box(pulses)),
     );
     reference::report_strip(Wear::default(), pulses).expect("the strip is not too long")
+}
+
+/// Bytes one by one, sound ones and then bad ones of any cause.
+fn single_bytes(sheet: &mut Sheet, random: &mut Random, n: usize) {
+    let mut pulses = Vec::new();
+    (0..n).for_each(|_| push_byte(&mut pulses, random.byte()));
+    drift(random, &mut pulses);
+    bytes_at_places(sheet, &format!("byte-read-sound-{n}"), &pulses);
+    for frame in pulses.chunks_exact_mut(PULSES) {
+        let cause = random.below(CAUSES);
+        make_bad(random, frame, cause);
+    }
+    bytes_at_places(sheet, &format!("byte-read-cause-{n}"), &pulses);
+}
+
+fn bytes_at_places(sheet: &mut Sheet, name: &str, pulses: &[u32]) {
+    let sum = |read: fn(&[u32], usize) -> Result<u8, usize>| {
+        let places = (0..pulses.len()).step_by(PULSES);
+        places.fold([0; 2], |[values, causes], at| {
+            match read(black_box(pulses), at) {
+                Ok(value) => [values + usize::from(value), causes],
+                Err(cause) => [values, causes + cause],
+            }
+        })
+    };
+    sheet.side_by_side(
+        name,
+        || sum(library::read_byte),
+        || sum(reference::read_byte),
+    );
 }
