@@ -1,5 +1,6 @@
 // What `make bench` times beside the calls for C: loops over bytes, with thresholds that only the caller knows and with the fixed ones, and
 // the block reader in one program with them. So byte reading has several callers here.
+#![tactic(auto)]
 ghost use Rattle.std.specs.Prelude.{◌≡◌, length};
 ghost use Rattle.pulse.specs.Pulse.{fixed, classes};
 ghost use Rattle.block.specs.Reading.{read_block};
@@ -11,7 +12,7 @@ use pulse::{Cycles, Thresholds};
 
 // What a loop over bytes answers: how many are good, and the XOR of their values.
 #[repr(C)]
-#[derive(Drop)]
+#[derive(Clone, Copy)]
 pub struct BenchTally {
     pub good: usize,
     pub xor: u8,

@@ -4,6 +4,7 @@
 //   K short pulses  $89 .. $81, payload, checksum  L and 60 S  $09 .. $01, payload, checksum  L and 60 S
 //
 // The checksum is $00 XORed with each payload byte. A copy has n + 10 byte places of twenty pulses each.
+#![tactic(auto)]
 mod flags;
 mod looking;
 mod rules;
@@ -37,7 +38,7 @@ const COUNTDOWNS: [[u8; start::COUNTDOWN_BYTES]; 2] = [
 ];
 
 // Where an accepted block stands: its payload bytes, its start, and the place after copy two.
-#[derive(Drop)]
+#[derive(Clone, Copy)]
 pub struct Extent {
     pub n: usize,
     pub start: usize,
@@ -45,7 +46,7 @@ pub struct Extent {
 }
 
 // What the block reader answers.
-#[derive(Drop)]
+#[derive(Clone, Copy)]
 pub enum BlockAnswer {
     Accepted(Extent),
     Refused(Refusal),
@@ -54,7 +55,7 @@ pub enum BlockAnswer {
 // How many bytes are bad by each cause: by the marker, by one of the eight bits, by the parity bit, and by the number of ones. They stand in
 // the order of their numbers, for C too; no contract sees that order, the tests do.
 #[repr(C)]
-#[derive(Drop)]
+#[derive(Clone, Copy)]
 pub struct ByCause {
     pub marker: u64,
     pub bit0: u64,
@@ -91,7 +92,7 @@ impl ByCause {
 
 // How many of the places 0 to n of a block, the checksum's among them, are taken from copy one, are taken from copy two, and are lost; and how
 // many bytes of both copies at these places are bad, by their causes.
-#[derive(Drop)]
+#[derive(Clone, Copy)]
 pub struct Tally {
     pub one: usize,
     pub two: usize,
@@ -100,14 +101,14 @@ pub struct Tally {
 }
 
 // What looking at a block tells: what the block reader would answer, where the values come from, and the bad bytes.
-#[derive(Drop)]
+#[derive(Clone, Copy)]
 pub struct Look {
     pub answer: BlockAnswer,
     pub tally: Tally,
 }
 
 // What rule 4 says of a place: its value is copy one's, or it is copy two's, or it is lost, for these causes.
-#[derive(Drop)]
+#[derive(Clone, Copy)]
 pub enum PlaceRead {
     One(u8),
     Two(u8),
@@ -115,7 +116,7 @@ pub enum PlaceRead {
 }
 
 // What reading one place answers.
-#[derive(Drop)]
+#[derive(Clone, Copy)]
 pub enum PlaceAnswer {
     Accepted(PlaceRead),
     Refused(Refusal),

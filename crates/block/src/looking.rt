@@ -19,7 +19,7 @@ use refusal::{Reason, Refusal};
 use start::{COUNTDOWN_BYTES, Copies, Found};
 
 // What rules 4 and 5 say of the values, where these come from, and the bad bytes.
-#[derive(Drop)]
+#[derive(Clone, Copy)]
 struct Counted {
     tally: Tally,
     check: Check,

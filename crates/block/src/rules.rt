@@ -16,7 +16,7 @@ use refusal::{Causes, Reason};
 use start::{COUNTDOWN_BYTES, Copies, CopiesAnswer, Found};
 
 // Where the value of a place comes from, without the causes of a place that is lost.
-#[derive(Drop)]
+#[derive(Clone, Copy)]
 pub enum Source {
     One(u8),
     Two(u8),
@@ -24,7 +24,7 @@ pub enum Source {
 }
 
 // What rules 4 and 5 say of the values. Sound ones come with the number of repaired places, the checksum's among them.
-#[derive(Drop)]
+#[derive(Clone, Copy)]
 pub enum Check {
     Sound(usize),
     LostAt(usize),

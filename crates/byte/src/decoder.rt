@@ -15,7 +15,7 @@ const SECOND_HALF: usize = 16;
 const HALF: u32 = 65536;
 
 // The short threshold, and how far above it medium, long and noise begin. Long is at least medium.
-#[derive(Drop)]
+#[derive(Clone, Copy)]
 pub struct Bounds {
     short: Cycles,
     medium: Cycles,

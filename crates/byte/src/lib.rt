@@ -4,6 +4,7 @@
 //   pair      0       1     2     3     4     5     6     7     8       9
 //          marker   bit 0   1     2     3     4     5     6     7    parity
 //            L M    each bit: 0 is S M, 1 is M S
+#![tactic(auto)]
 mod decoder;
 mod write;
 
@@ -18,14 +19,14 @@ use pulse::{Cycles, Thresholds};
 use refusal::{Put, Reason};
 
 // What twenty pulses are: a good byte, with its value, or a bad one, with its cause. That is the first pair that is wrong, or EVEN_ONES.
-#[derive(Drop)]
+#[derive(Clone, Copy)]
 pub enum ByteRead {
     Good(u8),
     Bad(u8),
 }
 
 // The value of a frame that is a good byte; none, for whatever cause, of one that is bad.
-#[derive(Drop)]
+#[derive(Clone, Copy)]
 pub enum FrameRead {
     Value(u8),
     None,

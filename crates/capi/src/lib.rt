@@ -1,5 +1,6 @@
 // The C interface: the library's calls with plain structs for their answers, as `include/crumbthistle.h` declares them. A slice is a
 // pointer and a length in C. Every answer but that of reading a byte begins with its refusal.
+#![tactic(auto)]
 ghost use Rattle.std.specs.Prelude.{◌≡◌, [], ◌∷◌, length};
 ghost use Rattle.refusal.specs.Refusal.{why_of};
 ghost use Rattle.refusal.specs.Outcome.{mapped};
@@ -31,7 +32,7 @@ use wear::{ReportAnswer, Spot, Step, Totals, Trial, Tried};
 // Why a call refuses: the number of the refusal, the block and the place; with refusal 6 also why the lost byte is bad in copy one and in copy
 // two. All are 0 where it accepts; where it refuses, all numbers of the answer after the refusal are 0, but for those of a report and of a step.
 #[repr(C)]
-#[derive(Drop)]
+#[derive(Clone, Copy)]
 pub struct TapeRefusal {
     pub number: u32,
     pub block: u32,
@@ -42,7 +43,7 @@ pub struct TapeRefusal {
 
 // What reading a byte answers: whether it is good, the value of a good one, and the cause of a bad one.
 #[repr(C)]
-#[derive(Drop)]
+#[derive(Clone, Copy)]
 pub struct TapeByte {
     pub good: u32,
     pub value: u32,
@@ -51,7 +52,7 @@ pub struct TapeByte {
 
 // What a writer answers: how many pulses or bytes were put.
 #[repr(C)]
-#[derive(Drop)]
+#[derive(Clone, Copy)]
 pub struct TapePut {
     pub refusal: TapeRefusal,
     pub count: u64,
@@ -59,7 +60,7 @@ pub struct TapePut {
 
 // What the block reader answers: payload bytes, start, and the place after copy two.
 #[repr(C)]
-#[derive(Drop)]
+#[derive(Clone, Copy)]
 pub struct TapeBlock {
     pub refusal: TapeRefusal,
     pub n: u64,
@@ -69,7 +70,7 @@ pub struct TapeBlock {
 
 // What the last call for a deck said: nothing yet (told 0), the answer as the block reader's (1), or that it was refused (2).
 #[repr(C)]
-#[derive(Drop)]
+#[derive(Clone, Copy)]
 pub struct TapeTold {
     pub refusal: TapeRefusal,
     pub told: u32,
@@ -80,7 +81,7 @@ pub struct TapeTold {
 
 // What the file reader and unpacking a header answer: type, addresses, and the end of the data block. The kind is the type.
 #[repr(C)]
-#[derive(Drop)]
+#[derive(Clone, Copy)]
 pub struct TapeFile {
     pub refusal: TapeRefusal,
     pub kind: u32,
@@ -91,7 +92,7 @@ pub struct TapeFile {
 
 // What the TAP reader answers: version, and how many durations were put.
 #[repr(C)]
-#[derive(Drop)]
+#[derive(Clone, Copy)]
 pub struct TapeTap {
     pub refusal: TapeRefusal,
     pub version: u32,
@@ -100,7 +101,7 @@ pub struct TapeTap {
 
 // What the shown name's call answers: the part of the lent header that holds it.
 #[repr(C)]
-#[derive(Drop)]
+#[derive(Clone, Copy)]
 pub struct TapeSpan {
     pub refusal: TapeRefusal,
     pub offset: u64,
@@ -110,7 +111,7 @@ pub struct TapeSpan {
 // Totals of the report: strips, the pulses of each class, the places taken from copy one, taken from copy two, and lost, and the bad bytes
 // by their causes, which are an array of eleven numbers in C.
 #[repr(C)]
-#[derive(Drop)]
+#[derive(Clone, Copy)]
 pub struct TapeWear {
     pub strips: u64,
     pub shorts: u64,
@@ -125,7 +126,7 @@ pub struct TapeWear {
 
 // What the report answers: the totals with the strip added, or, where it refuses, as they were lent.
 #[repr(C)]
-#[derive(Drop)]
+#[derive(Clone, Copy)]
 pub struct TapeReport {
     pub refusal: TapeRefusal,
     pub totals: TapeWear,
@@ -134,7 +135,7 @@ pub struct TapeReport {
 // Where a walk stands: the place from which the next start is looked for, and how many bytes the data block has that is tried there. With
 // length 0 a header is tried.
 #[repr(C)]
-#[derive(Drop)]
+#[derive(Clone, Copy)]
 pub struct TapeWalk {
     pub from: u64,
     pub length: u64,
@@ -144,7 +145,7 @@ pub struct TapeWalk {
 // two, and lost, its bad bytes by their causes, and where the walk goes on. A block that is found and refused has an end of 0; all its other
 // numbers are told.
 #[repr(C)]
-#[derive(Drop)]
+#[derive(Clone, Copy)]
 pub struct TapeWalked {
     pub refusal: TapeRefusal,
     pub found: u32,

@@ -6,6 +6,7 @@
 //   a bad byte             0, its cause plus 1
 //
 // At payload and checksum places a good byte of copy two replaces a bad one.
+#![tactic(auto)]
 mod answers;
 mod decode;
 mod judge;
@@ -40,7 +41,7 @@ pub const ANSWERED: u8 = 4;
 
 // A frame of which not all twenty pulses are in: its bits so far, the class of its last pulse, and its first wrong pair, or 10.
 #[repr(C)]
-#[derive(Drop)]
+#[derive(Clone, Copy)]
 pub struct Frame {
     pub bits: u16,
     pub last: u8,
@@ -50,7 +51,7 @@ pub struct Frame {
 // What copy two has shown so far: the first lost place, or n + 1; the first countdown place that fails, or 9; the XOR of the values; and the
 // causes of the first lost place.
 #[repr(C)]
-#[derive(Drop)]
+#[derive(Clone, Copy)]
 pub struct Checks {
     pub lost: u32,
     pub failed: u8,
@@ -62,7 +63,7 @@ pub struct Checks {
 // The state. What is heard are pulses: of the sixteen short ones and $89 while it seeks, of a frame in a copy, and between the copies. The
 // answer is 0, or the number of a refusal; `refused` is the number with which the last call was refused, or 0.
 #[repr(C)]
-#[derive(Drop)]
+#[derive(Clone, Copy)]
 pub struct Deck {
     pub n: u32,
     pub taken: u32,
@@ -77,7 +78,7 @@ pub struct Deck {
 }
 
 // What the last call said: nothing yet, the answer, or that it was refused.
-#[derive(Drop)]
+#[derive(Clone, Copy)]
 pub enum Said {
     Nothing,
     Answer(BlockAnswer),

@@ -1,6 +1,7 @@
 // Program files. A program file is a header block and then its data block, each with a leader of its own.
 //
 //   block 0: the header, 192 bytes      block 1: the data, end minus start bytes
+#![tactic(auto)]
 ghost use Rattle.std.specs.Prelude.{◌≡◌, false, length};
 ghost use Rattle.refusal.specs.Promise.{put_answer, Written};
 ghost use Rattle.pulse.specs.Pulse.{fixed, classes};
@@ -23,14 +24,14 @@ const FIXED_PROGRAM: u8 = 3;
 const DATA_BLOCK: u32 = 1;
 
 // What an accepted file answers: type and addresses, and the end of the data block.
-#[derive(Drop)]
+#[derive(Clone, Copy)]
 pub struct Loaded {
     pub fields: Fields,
     pub stop: usize,
 }
 
 // What the file reader answers.
-#[derive(Drop)]
+#[derive(Clone, Copy)]
 pub enum FileAnswer {
     Accepted(Loaded),
     Refused(Refusal),
@@ -180,7 +181,7 @@ fn read_program(
             match block::read_block(strip, from, n, bytes) {
                 BlockAnswer::Refused(r) => FileAnswer::Refused(refusal::in_block(r, DATA_BLOCK)),
                 BlockAnswer::Accepted(e) => {
-                    bytes::copy(&h, header);
+                    header[..header::HEADER_BYTES].copy_from_slice(&h);
                     FileAnswer::Accepted(Loaded {
                         fields,
                         stop: e.end,

@@ -4,6 +4,7 @@
 //   type  start, low first  end, low first  name, filled with spaces; its first 16 bytes are shown
 //
 // The end address is one past the last byte of the program.
+#![tactic(auto)]
 ghost use Rattle.std.specs.Prelude.{◌+◌, ◌≤◌, ◌≡◌, length, get_or};
 ghost use Rattle.std.proofs.lemmas.List.Edits.{sets};
 ghost use Rattle.lists.specs.Text.{low_first};
@@ -38,7 +39,7 @@ const MOST_TYPE: u8 = 5;
 const WORD_BYTES: usize = 2;
 
 // What a header says beside the name. The kind is what document 01 calls the type.
-#[derive(Drop)]
+#[derive(Clone, Copy)]
 pub struct Fields {
     pub kind: u8,
     pub start: u16,
@@ -46,7 +47,7 @@ pub struct Fields {
 }
 
 // What unpacking a header answers.
-#[derive(Drop)]
+#[derive(Clone, Copy)]
 pub enum HeaderAnswer {
     Accepted(Fields),
     Refused(Refusal),

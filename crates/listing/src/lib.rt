@@ -5,6 +5,7 @@
 //
 //   type start end bytes name
 //   refused 10 0 0
+#![tactic(auto)]
 ghost use Rattle.std.specs.Prelude.{◌+◌, ◌≤◌, ◌<◌, ◌≡◌, ◌∷◌, [], ◌++◌, map, length};
 ghost use Rattle.lists.specs.Buffer.{put_at, Counts};
 ghost use Rattle.refusal.specs.Refusal.{number_of};
@@ -125,7 +126,7 @@ fn put_text(text: &[u8], out: &mut [u8], at: usize) -> usize
     requires { at + length text.now ≤ length out.old }
     ensures { Appended out.old at text.now result out.new }
 {
-    bytes::copy(text, &mut out[at..]);
+    out[at..at + text.len()].copy_from_slice(text);
     at + text.len()
 }
 
@@ -178,7 +179,7 @@ fn digit_of(d: u64) -> u8
     if d < 10 {
         b'0' + d as u8
     } else {
-        b'_a' + (d - 10) as u8
+        b'A' + (d - 10) as u8
     }
 }
 

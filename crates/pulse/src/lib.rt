@@ -3,11 +3,12 @@
 //   cycles     0 .. 199   200 .. 439   440 .. 607   608 .. 959   960 ..
 //   class       noise       short        medium        long       noise
 //   written as     -         360          520          688          -
+#![tactic(auto)]
 ghost use Rattle.std.specs.Prelude.{◌≡◌, cond};
 ghost use Rattle.pulse.specs.Pulse.{class_of, fixed, written_as, same};
 ghost use Rattle.pulse.specs.Units.{byte_cycles, cycles_of, units_of};
 
-#[derive(Drop)]
+#[derive(Clone, Copy)]
 pub enum Class {
     Short,
     Medium,
@@ -16,11 +17,11 @@ pub enum Class {
 }
 
 // A number of CPU cycles.
-#[derive(Drop)]
+#[derive(Clone, Copy)]
 pub struct Cycles(pub u32);
 
 // Where each class begins, and where noise begins again.
-#[derive(Drop)]
+#[derive(Clone, Copy)]
 pub struct Thresholds {
     pub short: Cycles,
     pub medium: Cycles,
@@ -112,7 +113,7 @@ pub fn written_as(c: Class) -> Cycles
 }
 
 // A number of TAP units, of eight cycles each.
-#[derive(Drop)]
+#[derive(Clone, Copy)]
 pub struct Units(pub u32);
 
 const UNIT_CYCLES: u32 = 8;
@@ -121,14 +122,14 @@ const UNIT_CYCLES: u32 = 8;
 const MOST_UNITS: Units = Units(0x1fff_ffff);
 
 // A number of units in cycles. There is none where it does not fit a pulse's 32 bits.
-#[derive(Drop)]
+#[derive(Clone, Copy)]
 pub enum InCycles {
     Fits(Cycles),
     TooLong,
 }
 
 // A number of cycles in units. There is none for one between two units.
-#[derive(Drop)]
+#[derive(Clone, Copy)]
 pub enum InUnits {
     Whole(Units),
     Between,

@@ -1,17 +1,18 @@
 // Refusals. A call that refuses its input tells the reason, the block and the place; it alters nothing in a lent buffer.
+#![tactic(auto)]
 ghost use Rattle.std.specs.Prelude.{◌≡◌};
 ghost use Rattle.refusal.specs.Refusal.{number_of, causes_of, or_none, refusal_at, in_block};
 
 // Why a lost byte is bad, in copy one and in copy two: the first of its pairs that is wrong, 0 for the marker to 9 for the parity bit, or 10 where
 // none is wrong and the number of ones is even.
-#[derive(Drop)]
+#[derive(Clone, Copy)]
 pub struct Causes {
     pub one: u8,
     pub two: u8,
 }
 
 // The reasons, in the order of their numbers. A lost byte has its causes, and no other reason has any.
-#[derive(Drop)]
+#[derive(Clone, Copy)]
 pub enum Reason {
     WrongSize,
     NoRoom,
@@ -30,7 +31,7 @@ pub enum Reason {
 }
 
 // The block is 0 for a header or a lone block and 1 for a program file's data block. The place is 0 where the reason names none.
-#[derive(Drop)]
+#[derive(Clone, Copy)]
 pub struct Refusal {
     pub reason: Reason,
     pub block: u32,
@@ -38,7 +39,7 @@ pub struct Refusal {
 }
 
 // What a writer answers, or a measure of what it would put: how many elements, or why none.
-#[derive(Drop)]
+#[derive(Clone, Copy)]
 pub enum Put {
     Count(usize),
     Refused(Refusal),

@@ -1,5 +1,6 @@
 // The cases of document 01 that are run and compared: the largest payload, one byte more, a leader that is too short, how many short
 // pulses a start needs before it; and its example of a program file, damaged and read back.
+#![tactic(auto)]
 ghost use Rattle.std.specs.Prelude.{◌+◌, ◌≤◌, length};
 
 use block::BlockAnswer;

@@ -2,6 +2,7 @@
 //
 //   16 short pulses | copy one                                     | one L and 60 S | copy two              |
 //                   p: $89 .. $81, n payload bytes, the checksum                      as long                end
+#![tactic(auto)]
 ghost use Rattle.std.specs.Prelude.{◌+◌, ◌-◌, ◌≤◌, ◌≡◌, ltb, length};
 ghost use Rattle.lists.specs.Places.{first_from};
 ghost use Rattle.pulse.specs.Pulse.{classes};
@@ -31,21 +32,21 @@ pub const TRAILER_PULSES: usize = 1 + TRAILER_SHORTS;
 const LEAST_PULSES: usize = 2 * byte::BYTE_PULSES * EXTRA_BYTES + TRAILER_PULSES;
 
 // What is looked for in a strip: its place, or none.
-#[derive(Drop)]
+#[derive(Clone, Copy)]
 pub enum Found {
     At(usize),
     Nothing,
 }
 
 // Where the copies of a block begin, and the place after copy two.
-#[derive(Drop)]
+#[derive(Clone, Copy)]
 pub struct Copies {
     pub one: usize,
     pub two: usize,
     pub end: usize,
 }
 
-#[derive(Drop)]
+#[derive(Clone, Copy)]
 pub enum CopiesAnswer {
     Accepted(Copies),
     Refused(Refusal),

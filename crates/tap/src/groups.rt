@@ -31,7 +31,7 @@ pub fn no_zeros(bytes: &[u8]) -> bool
 }
 
 // The zero bytes of a group: how many there are, and whether none stands in the three bytes after another.
-#[derive(Drop)]
+#[derive(Clone, Copy)]
 pub struct Zeros {
     pub count: u8,
     pub apart: bool,

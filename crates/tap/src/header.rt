@@ -22,7 +22,7 @@ const RESERVED_AT: usize = 13;
 const COUNT_AT: usize = 16;
 
 // What the header comes to.
-#[derive(Drop)]
+#[derive(Clone, Copy)]
 pub enum VersionAnswer {
     Version(u8),
     Refused(Refusal),

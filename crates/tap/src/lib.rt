@@ -4,6 +4,7 @@
 //   header    data: the forms of the durations, one after the other
 //
 // `header` has the 20 bytes in front, `forms` what stands for a duration, `reader` and `writer` the data; `groups` is there for speed.
+#![tactic(auto)]
 mod forms;
 mod groups;
 mod header;
@@ -26,14 +27,14 @@ const LAST_VERSION: u8 = 1;
 const MOST_DURATIONS: usize = 1_048_576;
 
 // What an accepted TAP file answers: its version, and the number of durations put.
-#[derive(Drop)]
+#[derive(Clone, Copy)]
 pub struct TapInfo {
     pub version: u8,
     pub count: usize,
 }
 
 // What the TAP reader answers.
-#[derive(Drop)]
+#[derive(Clone, Copy)]
 pub enum TapAnswer {
     Accepted(TapInfo),
     Refused(Refusal),

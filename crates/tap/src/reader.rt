@@ -56,7 +56,7 @@ fn count_forms(bytes: &[u8]) -> Put
 }
 
 // A place in the data of version 1 where a form begins, and the number of durations before it.
-#[derive(Drop)]
+#[derive(Clone, Copy)]
 struct FormPlace {
     place: usize,
     count: usize,

@@ -28,7 +28,7 @@ pub fn measure_forms(version: u8, durations: &[u32]) -> Put
 }
 
 // How many bytes there are in all forms, and whether a form is missing.
-#[derive(Drop)]
+#[derive(Clone, Copy)]
 struct Widths {
     bytes: u32,
     missing: bool,
@@ -74,7 +74,8 @@ pub fn put_file(version: u8, durations: &[u32], n: usize, out: &mut [u8]) -> Put
     if out.len() < count {
         return Put::Refused(refusal::at(Reason::NoRoom, 0));
     }
-    bytes::copy(&header::tap_header(version, n as u32), out);
+    let front = header::tap_header(version, n as u32);
+    out[..TAP_HEADER_BYTES].copy_from_slice(&front);
     put_data(version, durations, out);
     Put::Count(count)
 }

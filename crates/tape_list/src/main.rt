@@ -1,4 +1,5 @@
 // Lists the program file that a TAP file holds: tape_list < FILE
+#![tactic(auto)]
 use libc::{STDIN_FILENO, STDOUT_FILENO};
 
 fn main() {

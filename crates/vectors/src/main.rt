@@ -1,5 +1,6 @@
 // Lists TAP files that an independent tool made. The arguments are their names; the output is compared with the listings expected.
 // docs/TESTING.md says what is known of the tool.
+#![tactic(auto)]
 use libc::STDOUT_FILENO;
 
 // The length of '.tap', with which every name has to end and which is not printed.

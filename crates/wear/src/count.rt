@@ -9,7 +9,7 @@ use block::{ByCause, Tally};
 use pulse::{Cycles, Thresholds};
 
 // The pulses of each class.
-#[derive(Drop)]
+#[derive(Clone, Copy)]
 pub struct Pulses {
     pub shorts: usize,
     pub mediums: usize,

@@ -1,4 +1,5 @@
 // How worn the strips of a collection are. A walk goes over the blocks of a strip, one after the other; the report adds what it finds to totals.
+#![tactic(auto)]
 mod count;
 mod walk;
 
@@ -15,14 +16,14 @@ use refusal::{Reason, Refusal};
 
 // What is tried at the next start: a header, which has 192 bytes, or the data block of a header that was read, with so many bytes. A data block
 // of 192 bytes is not a header.
-#[derive(Drop)]
+#[derive(Clone, Copy)]
 pub enum Trial {
     Header,
     Data(usize),
 }
 
 // Where a walk stands: the place from which the next start is looked for, and what is tried there. It begins at place 0 with a header.
-#[derive(Drop)]
+#[derive(Clone, Copy)]
 pub struct Spot {
     pub from: usize,
     pub trial: Trial,
@@ -30,7 +31,7 @@ pub struct Spot {
 
 // A block that a walk found: how many payload bytes were tried, where it starts, what the rules answer, where its values come from, its bad
 // bytes, and where the walk goes on. A refusal names block 1 where a data block was tried.
-#[derive(Drop)]
+#[derive(Clone, Copy)]
 pub struct Tried {
     pub n: usize,
     pub start: usize,
@@ -40,14 +41,14 @@ pub struct Tried {
 }
 
 // One step of a walk: a block, or why there is none.
-#[derive(Drop)]
+#[derive(Clone, Copy)]
 pub enum Step {
     Found(Tried),
     Refused(Refusal),
 }
 
 // A walker holds the strip and where it stands on it.
-#[derive(Drop)]
+#[derive(Clone, Copy)]
 pub struct Walker<'a> {
     pub strip: &'a [u32],
     pub at: Spot,
@@ -79,7 +80,7 @@ pub fn step_from(strip: &[u32], at: Spot) -> Step
 
 // How many strips were reported, the pulses of each class on them, and of their blocks the places taken from copy one, taken from copy two, and
 // lost, and the bad bytes. All are 0 to begin with.
-#[derive(Drop)]
+#[derive(Clone, Copy)]
 pub struct Totals {
     pub strips: u64,
     pub shorts: u64,
@@ -93,7 +94,7 @@ pub struct Totals {
 }
 
 // What the report answers. The totals handed in stay as they are where it refuses.
-#[derive(Drop)]
+#[derive(Clone, Copy)]
 pub enum ReportAnswer {
     Accepted(Totals),
     Refused(Refusal),

@@ -1,0 +1,17 @@
+-- `block::values::fill_copy` meets its contract. The invariant: the values left, put after those that are there, give the whole.
+use Prim.Native.Nat.{◌+◌, ◌-◌, ◌≤◌}
+use native.Mathlib.Omega.{arith}
+use mathlib.Core.Path.{refl, sym, ap, ◌∙◌}
+use mathlib.Core.List.{◌∷◌}
+use borrow.Author.Rules.{rules}
+use Rattle.lists.specs.Places.{tabulate}
+use Rattle.lists.proofs.LoopLaws.{put_one, put-done, table-next, table-over, Putting, table_left}
+use Rattle.block.specs.private.Values.{bits_of}
+use Rattle.block.proofs.values.fill_copy.Given as goal
+
+abbrev pub invariant-loop-i : goal.invariant-loop-i
+invariant-loop-i l =
+    (l.i ≤ l.end) × Putting l.initial.out l.from (tabulate (bits_of l.t l.strip l.copy) (l.end - l.from) l.from) l.out l.i (table_left (bits_of l.t l.strip l.copy) l.end l.i)
+
+abbrev pub decreases-loop-i : goal.decreases-loop-i
+decreases-loop-i l = l.end - l.i

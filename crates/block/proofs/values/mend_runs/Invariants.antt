@@ -1,0 +1,18 @@
+-- `block::values::mend_runs` meets its contract. The invariant: the values left, put after those that are there, give the whole, and the places
+-- left hold copy one's bits.
+use Prim.Native.Nat.{◌-◌, ◌≤◌}
+use native.Mathlib.Omega.{arith}
+use mathlib.Core.Path.{refl, sym, ◌∙◌}
+use borrow.Author.Rules.{rules}
+use Rattle.lists.proofs.LoopLaws.{put-begun, put-done, table-begun, table-over}
+use Rattle.pulse.specs.Pulse.{classes}
+use Rattle.block.specs.Reading.{value_at}
+use Rattle.block.specs.private.Values.{HoldsBits}
+use Rattle.block.proofs.Filling.{run_value, ValuesPut, values-next, values-there, bits-after}
+use Rattle.block.proofs.values.mend_runs.Given as goal
+
+abbrev pub invariant-loop-i : goal.invariant-loop-i
+invariant-loop-i l = (l.i ≤ l.n) × ValuesPut (classes l.t l.strip) l.one l.two l.n l.initial.out l.out l.i × HoldsBits l.t l.strip l.one l.n l.out l.i
+
+abbrev pub decreases-loop-i : goal.decreases-loop-i
+decreases-loop-i l = l.n - l.i

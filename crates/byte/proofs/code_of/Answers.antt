@@ -1,0 +1,8 @@
+-- `byte::code_of` meets its contract.
+use Rattle.std.proofs.Common.{rules}
+use Rattle.byte.specs.private.Frame.{code_of}
+use Rattle.byte.proofs.code_of.Goals as goal
+
+pub returns : goal.returns
+unfolding code_of
+returns c = rw c.parity_bit.ensures

@@ -1,0 +1,10 @@
+-- `byte::write::put_bits` meets its contract. The invariant: the bits of what is left of the byte, put after those that are there, give all eight.
+use Rattle.std.proofs.Common.{◌-◌, ◌≤◌, arith, rules}
+use Rattle.byte.proofs.QuarterLaws.{BitsPut, BitsPut-begun, BitsPut-next, BitsPut-done}
+use Rattle.byte.proofs.write.put_bits.Given as goal
+
+abbrev pub invariant-loop-i : goal.invariant-loop-i
+invariant-loop-i l = (l.i ≤ 4) × BitsPut l.initial.out l.at l.b l.out l.rest l.i
+
+abbrev pub decreases-loop-i : goal.decreases-loop-i
+decreases-loop-i l = 4 - l.i

@@ -1,0 +1,14 @@
+-- `byte::write::put_quarter` meets its contract. The invariant: the pulses left of the table's row, put after those that are there, give them all.
+use Rattle.std.proofs.Common.{◌-◌, ◌≤◌, arith, rules}
+use Rattle.lists.proofs.LoopLaws.{Copied, copy-begun}
+use Rattle.byte.specs.private.Quarters.{quarter}
+use Rattle.byte.proofs.QuarterLaws.{row_fits, quarter-next, quarter-done}
+use Rattle.byte.proofs.write.put_quarter.Goals as goal
+
+pub loop-i-preserved : goal.loop-i-preserved
+loop-i-preserved c =
+    (omega arith, quarter-next c.args.out.now c.args.at c.args.n c.loop-i.invariant.1 c.requires.rows (omega arith) c.loop-i-test.true)
+
+pub returns : goal.returns
+returns c =
+    quarter-done c.args.out.now c.args.at c.args.n c.loop-i.invariant.1 c.loop-i-test.false

@@ -1,0 +1,12 @@
+-- `byte::write::put_quarter` meets its contract. The invariant: the pulses left of the table's row, put after those that are there, give them all.
+use Rattle.std.proofs.Common.{◌-◌, ◌≤◌, arith, rules}
+use Rattle.lists.proofs.LoopLaws.{Copied, copy-begun}
+use Rattle.byte.specs.private.Quarters.{quarter}
+use Rattle.byte.proofs.QuarterLaws.{row_fits, quarter-next, quarter-done}
+use Rattle.byte.proofs.write.put_quarter.Given as goal
+
+abbrev pub invariant-loop-i : goal.invariant-loop-i
+invariant-loop-i l = (l.i ≤ 4) × Copied l.initial.out l.at (quarter l.n) l.out l.i
+
+abbrev pub decreases-loop-i : goal.decreases-loop-i
+decreases-loop-i l = 4 - l.i

@@ -1,0 +1,22 @@
+-- `byte::write_bytes` meets its contract. The invariant: the bytes left, put after those that are there, give them all.
+use Rattle.std.proofs.Common.{◌-◌, ◌≤◌, length, refl, arith, rules}
+use Rattle.byte.specs.Byte.{bits, coded}
+use Rattle.byte.specs.private.Quarters.{quarters_from}
+use Rattle.byte.proofs.Stores.{BytesPut, BytesPut-next, write_bytes-whole, write_bytes-no_room}
+use Rattle.byte.proofs.write_bytes.Goals as goal
+
+pub returns-then-out-values : goal.returns-then-out-values
+returns-then-out-values c =
+    write_bytes-no_room c.args.out.now c.args.values.now (omega arith) c.at.ensures
+
+pub put_twenty-requires : goal.put_twenty-requires
+unfolding quarters_from bits coded
+put_twenty-requires c = record { room = search rules; rows = refl }
+
+pub loop-i-preserved : goal.loop-i-preserved
+loop-i-preserved c =
+    (omega arith, BytesPut-next c.args.out.now c.args.values.now c.loop-i.invariant.1 c.loop-i-test.true c.put_twenty.ensures)
+
+pub returns : goal.returns
+returns c =
+    write_bytes-whole c.args.out.now c.args.values.now c.loop-i.invariant.1 c.loop-i-test.false (omega arith)

@@ -1,0 +1,12 @@
+use Prim.Native.Nat.{◌-◌, ◌≤◌}
+use native.Mathlib.Omega.{arith}
+use Rattle.deck.proofs.Answering.{PayloadPut, fill-begun, fill-next, fill_done}
+use Rattle.deck.proofs.work.fill.Reads as reads
+use Rattle.deck.proofs.work.fill.Lts as lts
+use Rattle.deck.proofs.work.fill.Given as goal
+
+abbrev pub invariant-loop-i : goal.invariant-loop-i
+invariant-loop-i l = (l.i ≤ l.n) × PayloadPut l.initial.out l.work l.n l.out l.i
+
+abbrev pub decreases-loop-i : goal.decreases-loop-i
+decreases-loop-i l = l.n - l.i

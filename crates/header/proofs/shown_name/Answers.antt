@@ -1,0 +1,35 @@
+-- `header::shown_name` meets its contract: an empty part where unpacking refuses, and else the part from byte 5 on that is shown.
+use Prim.Native.Nat.{◌≤◌}
+use native.Mathlib.Omega.{arith}
+use mathlib.Core.Path.{◌≡◌}
+use borrow.Author.Rules.{rules}
+use lib.ListN.{length}
+use Rattle.header.proofs.HeaderLaws.{shown_count-shown}
+use Rattle.header.proofs.Unpacking.{shown_name-refused, shown_name-long, shown_name-accepted}
+use Rattle.header.proofs.shown_name.Goals as goal
+use Rattle.header.proofs.shown_name.Goals.{After-shown_count-end, In-Accepted}
+
+-- the header is whole, and at most sixteen bytes are shown
+long : (c : In-Accepted) → length c.args.header.now ≡ 192
+long c =
+    shown_name-long c.args.header.now c.unpack_header.ensures c.in-Accepted.is
+
+count : (c : After-shown_count-end) → c.shown_count-end.result ≤ 16
+count c = rw c.shown_count-end.ensures (shown_count-shown c.args.header.now 16).high
+
+pub returns-in_default : goal.returns-in_default
+returns-in_default c =
+    shown_name-refused h.now c.unpack-header.ensures c.enum-told2.given.1 h.ref_ptr
+
+pub shown_count-end-requires : goal.shown_count-end-requires
+shown_count-end-requires c = let l = long c in omega arith
+
+pub overflow_add-end : goal.overflow_add-end
+overflow_add-end c = let l = count c in omega arith
+
+pub returns : goal.returns
+returns c =
+    shown_name-accepted c.args.header.now c.unpack_header.ensures c.in-Accepted.is c.shown_count-end.ensures c.args.header.ref_ptr
+
+pub slice_bounds-result-end-2 : goal.slice_bounds-result-end-2
+slice_bounds-result-end-2 c = ?

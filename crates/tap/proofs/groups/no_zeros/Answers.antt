@@ -1,0 +1,12 @@
+-- `tap::groups::no_zeros` meets its contract. The invariant: with the bytes tested, the rest gives the answer.
+use Prim.Native.Nat.{◌-◌}
+use borrow.Author.Rules.{rules}
+use lib.ListN.{length}
+use Rattle.tap.proofs.GroupLaws.{Tested, test-next, test-done}
+use Rattle.tap.proofs.groups.no_zeros.Goals as goal
+
+pub loop-i-preserved : goal.loop-i-preserved
+loop-i-preserved c = test-next c.loop-i.invariant c.loop-i-test.true
+
+pub returns : goal.returns
+returns c = test-done c.loop-i.invariant c.loop-i-test.false

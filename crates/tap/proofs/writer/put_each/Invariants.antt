@@ -1,0 +1,13 @@
+-- `tap::writer::put_each` meets its contract. The invariant: the forms of the durations left, put after those that are there, give all data bytes.
+use Prim.Native.Nat.{◌-◌}
+use borrow.Author.Rules.{rules}
+use lib.ListN.{length}
+use Rattle.tap.proofs.FormLaws.{tap_data-next}
+use Rattle.tap.proofs.WriterLaws.{DataPut, DataPut-room, DataPut-next, DataPut-end, DataPut-done}
+use Rattle.tap.proofs.writer.put_each.Given as goal
+
+abbrev pub invariant-loop-i : goal.invariant-loop-i
+invariant-loop-i l = DataPut l.version l.durations l.initial.out l.start l.out l.i l.at
+
+abbrev pub decreases-loop-i : goal.decreases-loop-i
+decreases-loop-i l = length l.durations - l.i
