@@ -53,13 +53,9 @@ block_pulses k payload = pulses (block_classes k payload)
 
 -- ---- The writer
 
--- n is 0 or over a limit
-abbrev pub outside : (most n : ℕ) → Bool
-outside most n = eqb n 0 || ltb most n
-
 -- n is 0 or over 8,192
 abbrev pub wrong_size : (n : ℕ) → Bool
-wrong_size n = outside 8192 n
+wrong_size n = eqb n 0 || ltb 8192 n
 
 -- K is under 64 or over 65,535
 abbrev pub wrong_leader : (k : ℕ) → Bool

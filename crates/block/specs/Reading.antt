@@ -14,7 +14,7 @@ use Rattle.start.specs.Copies.{byte_place, copy_two, end_of, locate_copies}
 use Rattle.block.specs.declared.Extent.{Extent}
 use Rattle.block.specs.declared.BlockAnswer.{BlockAnswer}
 use Rattle.block.specs.declared.BlockAnswer.TheVariants.{Accepted, Refused}
-use Rattle.block.specs.Block.{checksum, first_byte, outside}
+use Rattle.block.specs.Block.{checksum, first_byte, wrong_size}
 
 -- ---- Rule 3: the countdown
 
@@ -111,15 +111,11 @@ read_at cs p n = and_then (locate_copies (length cs) p n) (λ copies. read_copie
 unfoldable pub read_from : (cs : List Class) (from n : ℕ) → Outcome BlockRead
 read_from cs from n = and_then (find_start cs from) (λ p. read_at cs p n)
 
--- the reading rule for blocks of up to `most` payload bytes, with `room` places for them: refusals 1 and 2 come first
-abbrev pub read_up_to : (most : ℕ) (cs : List Class) (room from n : ℕ) → Outcome BlockRead
-read_up_to most cs room from n =
-    cond (outside most n) (refuse WrongSize 0)
-    (if_room room n (read_from cs from n))
-
--- the reader takes up to 8,192
+-- the reader with `room` places for the payload: refusals 1 and 2 come first
 unfoldable pub read_block : (cs : List Class) (room from n : ℕ) → Outcome BlockRead
-read_block cs room from n = read_up_to 8192 cs room from n
+read_block cs room from n =
+    cond (wrong_size n) (refuse WrongSize 0)
+    (if_room room n (read_from cs from n))
 
 -- what the reader answers
 abbrev pub block_answer : BlockAnswer → Outcome Extent

@@ -4,6 +4,7 @@ use Prim.Native.Nat.{ℕ, ◌+◌, ◌-◌, ◌≤◌, ◌<◌}
 use native.Mathlib.Omega.{arith}
 use mathlib.Core.Path.{◌≡◌, sym, ap, ◌∙◌}
 use mathlib.Core.Bool.{true}
+use mathlib.Core.List.{List}
 use mathlib.Core.Option.{some}
 use borrow.Author.Count.{below_more}
 use borrow.Author.Rules.{rules}
@@ -11,26 +12,25 @@ use borrow.Author.Tests.{not-true, not-false}
 use lib.ListN.{length, length-map}
 use Rattle.lists.specs.Places.{first_from}
 use Rattle.lists.proofs.PlaceLaws.{some_first}
+use Rattle.pulse.specs.declared.Thresholds.{Thresholds}
 use Rattle.pulse.specs.Pulse.{class_of, classes}
 use Rattle.byte.proofs.Matching.{fits_at, fits-there, is_good-fits, is_good-unfit}
+use Rattle.start.specs.declared.Found.{Found}
+use Rattle.start.specs.declared.Found.TheVariants.{At}
 use Rattle.start.specs.Start.{start_at, found_at, find_start}
 use Rattle.start.specs.private.Search.{not_short, last_from}
 use Rattle.start.proofs.Searching.{some-last, Searching, find_start-fewer, searching-not_short, find_start-run_lasts, find_start-cut_short, searching-other_byte, find_start-found}
 use Rattle.start.proofs.find_start.Goals as goal
-use Rattle.start.proofs.find_start.Goals.{After-pair_fits, In-At, In-At-first_not_short}
+use Rattle.start.proofs.find_start.Goals.{In-At}
 
 -- where one of the sixteen pulses is not short
 last-there : (arm : In-At) → last_from (not_short (classes arm.args.t arm.args.strip.now)) 16 arm.runs.at ≡ some arm.in-At.last
 last-there arm = sym arm.last_not_short.ensures ∙ ap found_at arm.in-At.is
 
 -- where the run of short pulses ends
-end-there : (arm : In-At-first_not_short) → let far = arm.runs.at + 16 in first_from (not_short (classes arm.args.t arm.args.strip.now)) (length arm.args.strip.now - far) far ≡ some arm.in-At-first_not_short.end
-end-there arm = sym arm.first_not_short.ensures ∙ ap found_at arm.in-At-first_not_short.is
-
--- what the look learns of a pair
-looked : (c : After-pair_fits) → fits_at (classes c.args.t c.args.strip.now) c.in-At-first_not_short.end 0x89 c.look.i ≡ c.pair_fits.result
-looked c =
-    sym (fits-there c.args.t c.args.strip.now c.in-At-first_not_short.end 0x89 c.look.i (omega arith)) ∙ sym c.pair_fits.ensures
+end-there : (t : Thresholds) (strip : List ℕ) (at end : ℕ) {found : Found} → found_at found ≡ first_from (not_short (classes t strip)) (length strip - (at + 16)) (at + 16)
+    → found ≡ At end → first_from (not_short (classes t strip)) (length strip - (at + 16)) (at + 16) ≡ some end
+end-there t strip at end e is = sym e ∙ ap found_at is
 
 pub overflow_add-at : goal.overflow_add-at
 overflow_add-at c = let r = some-last _ _ 16 _ (last-there c) in omega arith
@@ -45,13 +45,13 @@ runs-preserved c =
 
 pub search-smaller : goal.search-smaller
 search-smaller c =
-    let r = some_first _ _ _ _ (end-there c.before.before.before.before.before.before.before.before) in
+    let r = some_first _ _ _ _ (end-there c.args.t c.args.strip.now c.runs.at c.in-At-first_not_short.end c.first_not_short.ensures c.in-At-first_not_short.is) in
     omega arith
 
 pub search-preserved : goal.search-preserved
 search-preserved c =
-    searching-other_byte c.runs.invariant.1 _ (end-there c.before.before.before.before.before.before.before.before)
-    (is_good-unfit (classes c.args.t c.args.strip.now) c.in-At-first_not_short.end 0x89 c.look.i (omega arith) (looked c.before ∙ c.if-not-pair_fits.true))
+    searching-other_byte c.runs.invariant.1 _ (end-there c.args.t c.args.strip.now c.runs.at c.in-At-first_not_short.end c.first_not_short.ensures c.in-At-first_not_short.is)
+    (is_good-unfit (classes c.args.t c.args.strip.now) c.in-At-first_not_short.end 0x89 c.look.i (omega arith) (sym (fits-there c.args.t c.args.strip.now c.in-At-first_not_short.end 0x89 c.look.i (omega arith)) ∙ sym c.pair_fits.ensures ∙ c.if-not-pair_fits.true))
 
 pub returns-then-pulses_from-lt-SYNC_SHORTS : goal.returns-then-pulses_from-lt-SYNC_SHORTS
 unfolding find_start
@@ -66,12 +66,12 @@ returns-in_default-first_not_short c =
 pub returns-then-pulses_from-lt-BYTE_PULSES : goal.returns-then-pulses_from-lt-BYTE_PULSES
 unfolding find_start
 returns-then-pulses_from-lt-BYTE_PULSES c =
-    ap start_at (find_start-cut_short c.runs.invariant.1 _ (end-there c.before.before)
+    ap start_at (find_start-cut_short c.runs.invariant.1 _ (end-there c.args.t c.args.strip.now c.runs.at c.in-At-first_not_short.end c.first_not_short.ensures c.in-At-first_not_short.is)
     (omega (arith, length-map c.args.strip.now (class_of c.args.t))))
 
 pub returns-then-i-eq-PAIRS : goal.returns-then-i-eq-PAIRS
 unfolding find_start
 returns-then-i-eq-PAIRS c =
-    ap start_at (find_start-found c.runs.invariant.1 _ (end-there c.before.before.before.before)
+    ap start_at (find_start-found c.runs.invariant.1 _ (end-there c.args.t c.args.strip.now c.runs.at c.in-At-first_not_short.end c.first_not_short.ensures c.in-At-first_not_short.is)
     (sym c.last_not_short.ensures ∙ ap found_at c.in_default.is)
     (is_good-fits (classes c.args.t c.args.strip.now) c.in-At-first_not_short.end 0x89 (omega arith) (omega (arith, length-map c.args.strip.now (class_of c.args.t))) (omega arith) c.look.invariant.1))

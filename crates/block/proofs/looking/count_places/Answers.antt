@@ -1,0 +1,48 @@
+-- `block::looking::count_places` meets its contract. The invariant: what is counted before place i, the sum with the values left, and the first lost
+-- place.
+use Prim.Native.Nat.{◌+◌, ◌-◌}
+use native.Mathlib.Omega.{arith}
+use mathlib.Core.Path.{sym, ◌∙◌}
+use mathlib.Core.Logic.{⊎_elim}
+use Rattle.pulse.specs.Pulse.{classes}
+use Rattle.block.specs.Reading.{place_at}
+use Rattle.block.proofs.SourceLaws.{source_one, source-two, source-lost}
+use Rattle.block.proofs.CauseCounts.{Told, told-begun, told-small, told-next, told-all}
+use Rattle.block.proofs.Counting.{Counting, counting-begun, counting-few, counting-one, counting-two, counting-lost, counted-one, counted-tally, counted-check, counted-last}
+use borrow.Author.Rules.{rules}
+use Rattle.block.proofs.looking.count_places.Goals as goal
+
+pub loop-i-init : goal.loop-i-init
+loop-i-init c = (counting-begun _ _ _ _, told-begun _ _ _)
+
+pub count_place-requires : goal.count_place-requires
+count_place-requires c = (omega arith, omega arith, told-small _ _ _ c.loop-i.invariant.1 (omega arith))
+
+pub overflow_add-repaired : goal.overflow_add-repaired
+overflow_add-repaired c = record { fits = omega (arith, counting-few c.loop-i.invariant.0) }
+
+pub overflow_add-lost : goal.overflow_add-lost
+overflow_add-lost c = record { fits = omega (arith, counting-few c.loop-i.invariant.0) }
+
+pub loop-i-preserved : goal.loop-i-preserved
+loop-i-preserved c =
+    let place = place_at (classes c.args.t c.args.strip.now) c.args.one c.args.two c.loop-i.i in
+    let e = sym c.count_place.ensures.value in (
+      ⊎_elim
+          (λ w. counting-one c.loop-i.invariant.0 c.loop-i-test.true (source_one _ (e ∙ w.1.given.1)) w.3 w.4 w.5 w.6)
+          (⊎_elim
+          (λ w. counting-two c.loop-i.invariant.0 c.loop-i-test.true (source-two _ (e ∙ w.1.given.1)) w.3 w.4 w.5 w.6)
+          (λ w. counting-lost c.loop-i.invariant.0 c.loop-i-test.true (source-lost place (e ∙ w.1.given.1)) w.3 w.4 (w.6 ∙ w.2.ensures) w.5))
+          c.match-count_place.branch,
+      told-next _ _ _ c.loop-i.invariant.1 c.count_place.ensures.bad_after,
+    )
+
+pub overflow_sub-result : goal.overflow_sub-result
+overflow_sub-result c = let whole = counted-one c.loop-i.invariant.0 c.loop-i-test.false in omega arith
+
+pub overflow_sub-result-2 : goal.overflow_sub-result-2
+overflow_sub-result-2 c = let whole = counted-one c.loop-i.invariant.0 c.loop-i-test.false in omega arith
+
+pub returns : goal.returns
+returns c =
+    record { tally_value = counted-tally c.loop-i.invariant.0 c.loop-i-test.false (c.by_cause.ensures ∙ told-all _ _ _ c.loop-i.invariant.1 _ (counted-last c.loop-i.invariant.0 c.loop-i-test.false)); check_value = c.check_of.ensures ∙ counted-check c.loop-i.invariant.0 c.loop-i-test.false }

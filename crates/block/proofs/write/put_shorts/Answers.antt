@@ -1,0 +1,10 @@
+-- `block::write::put_shorts` meets its contract. The invariant: the short pulses left, put after those that are there, give the whole.
+use Prim.Native.Nat.{◌-◌, ◌≤◌}
+use native.Mathlib.Omega.{arith}
+use borrow.Author.Rules.{rules}
+use Rattle.block.proofs.Writing.{ShortsPut, shorts-begun, shorts-next, shorts-done}
+use Rattle.block.proofs.write.put_shorts.Goals as goal
+
+pub loop-i-preserved : goal.loop-i-preserved
+loop-i-preserved c =
+    (omega arith, shorts-next c.args.out.now c.args.at c.args.count c.loop-i.invariant.1 c.loop-i-test.true c.written_as-short.ensures)

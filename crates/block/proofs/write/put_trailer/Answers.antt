@@ -1,0 +1,12 @@
+-- `block::write::put_trailer` meets its contract: the long pulse is stored, and the short ones after it.
+use native.Mathlib.Omega.{arith}
+use mathlib.Core.Path.{ap, ◌∙◌}
+use borrow.Author.Rules.{rules}
+use lib.ListN.{length, length-set}
+use lib.Seq.{length-sets}
+use Rattle.block.proofs.Writing.{trailer-put}
+use Rattle.block.proofs.write.put_trailer.Goals as goal
+
+pub returns : goal.returns
+returns c =
+    c.put_shorts.ensures ∙ trailer-put c.args.out.now c.args.at c.written_as-long.result.0 c.written_as-long.ensures
