@@ -16,4 +16,4 @@ returns-in-Version c =
     read_tap-sound_header c.args.file.now c.args.out.now c.tap_version.ensures c.in-Version.is c.read_durations.result c.read_durations.ensures
 
 pub slice_bounds-read_durations-start : goal.slice_bounds-read_durations-start
-slice_bounds-read_durations-start c = ?
+slice_bounds-read_durations-start c = tap_version-long c.args.file.now c.args.out.now c.tap_version.ensures c.in-Version.is

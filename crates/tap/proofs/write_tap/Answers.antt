@@ -17,7 +17,7 @@ pub put_file-requires : goal.put_file-requires
 put_file-requires c =
     let count = length-data_of c.args.out.now c.args.version c.args.durations.now c.if-durations-gt-MOST_DURATIONS.false c.if-version-gt-LAST_VERSION.false c.measure_forms.ensures c.in-Count.is in
     let width = width-tap_data c.args.version c.args.durations.now in
-    record { n_value = count; n_bound = omega arith }
+    record { count = count; fits = omega arith }
 
 pub returns-in-Refused : goal.returns-in-Refused
 returns-in-Refused c =

@@ -10,4 +10,4 @@ use Rattle.tap.proofs.header.wrong_letters.Goals as goal
 pub returns : goal.returns
 unfolding ascii
 returns c =
-    wrong_letters-same test.before.before.args.file.now c.if1.false c.same.ensures
+    wrong_letters-same c.args.file.now c.if-file-lt-TAP_HEADER_BYTES.false c.same.ensures

@@ -7,4 +7,4 @@ use Rattle.tap.proofs.reader.count_group.Goals as goal
 
 pub returns-then-no_zeros : goal.returns-then-no_zeros
 returns-then-no_zeros c =
-    record { counted_2 = count-run c.args.bytes.now c.requires.counted c.group_end-end.result (omega arith) c.group_end-end.ensures.1 (sym c.no_zeros.ensures ∙ c.if-no_zeros.true); counted_to = record { order = omega arith; cut = λ q. absurd (omega arith) } }
+    record { counted = count-run c.args.bytes.now c.requires.counted c.group_end-end.result (omega arith) c.group_end-end.ensures.1 (sym c.no_zeros.ensures ∙ c.if-no_zeros.true); place = record { order = omega arith; cut = λ q. absurd (omega arith) } }

@@ -17,4 +17,4 @@ overflow_sub-result-then-zeros-2 c =
 pub returns-then-zeros : goal.returns-then-zeros
 returns-then-zeros c =
     let counted = apart-counted c.args.bytes.now c.args.start (c.zeros_in-zeros.ensures c.if-zeros.true) (omega arith) c.requires.counted c.form_end-place.ensures in
-    record { counted_2 = counted.2; counted_to = record { order = omega (arith, counted.0); cut = λ q. absurd (omega (arith, counted.0)) } }
+    record { counted = counted.2; place = record { order = omega (arith, counted.0); cut = λ q. absurd (omega (arith, counted.0)) } }

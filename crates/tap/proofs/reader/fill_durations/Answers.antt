@@ -20,7 +20,7 @@ returns-then-version-eq0 c =
 pub fill_forms-requires : goal.fill_forms-requires
 fill_forms-requires c =
     let version1 = durations_in-version1 c.args.version c.if-version-eq0.false 0 c.args.bytes.now in
-    record { within = omega arith; c.requires.sound = rw version1 at c.requires.sound; c.requires.room = rw zero-add (rw version1 at c.requires.room) }
+    record { within = omega arith; sound = rw version1 at c.requires.sound; room = rw zero-add (rw version1 at c.requires.room) }
 
 pub returns : goal.returns
 returns c =

@@ -18,4 +18,4 @@ pub returns-then-no_zeros : goal.returns-then-no_zeros
 returns-then-no_zeros c =
     let run = durations_from-run c.args.bytes.now c.args.start c.group_end-end.result (omega arith) (omega arith) (sym c.no_zeros.ensures ∙ c.if-no_zeros.true) in
     let width = length_run c.args.bytes.now c.args.start c.group_end-end.result (omega arith) (omega arith) in
-    record { start_lt_place = omega arith; filled_to = fill_step c.args.bytes.now (fill-begun c.args.bytes.now c.requires.fillable) run c.fill_cycles.ensures (ap (λ m. c.args.k + m) (sym width)) }
+    record { further = omega arith; filled = fill_step c.args.bytes.now (fill-begun c.args.bytes.now c.requires.fillable) run c.fill_cycles.ensures (ap (λ m. c.args.k + m) (sym width)) }

@@ -11,7 +11,7 @@ use Rattle.tap.proofs.writer.all_bytes.Goals as goal
 
 pub loop-i-preserved : goal.loop-i-preserved
 loop-i-preserved c =
-    let units = c.byte_units.ensures.result_value ∙ sym (get_or-mapped byte_units c.args.durations.now c.loop-i.i c.loop-i-test.true) in
+    let units = c.byte_units.ensures.value ∙ sym (get_or-mapped byte_units c.args.durations.now c.loop-i.i c.loop-i-test.true) in
     let next = test-next c.loop-i.invariant.1 (rw length-map c.loop-i-test.true) in
     (omega arith, rw units next)
 

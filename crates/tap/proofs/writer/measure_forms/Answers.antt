@@ -10,4 +10,4 @@ returns-then-sum c =
 
 pub returns : goal.returns
 returns c =
-    data_of-accepted c.args.version c.args.durations.now (sym c.sum_widths-sum.ensures.missing_value ∙ c.if-sum.false) c.sum_widths-sum.ensures.bytes_value
+    data_of-accepted c.args.version c.args.durations.now (sym c.sum_widths-sum.ensures.missing ∙ c.if-sum.false) c.sum_widths-sum.ensures.bytes

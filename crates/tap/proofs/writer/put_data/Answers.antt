@@ -15,7 +15,7 @@ put_group-at-requires c =
 pub loop-i-preserved : goal.loop-i-preserved
 loop-i-preserved c =
     let part = tap_data-part c.args.version c.args.durations.now c.loop-i.i c.group_end-end.result (omega arith) (omega arith) in
-    DataPut-next c.args.version c.args.durations.now c.args.out.now 20 c.loop-i.invariant part c.put_group-at.ensures.out_after c.put_group-at.ensures.value
+    DataPut-next c.args.version c.args.durations.now c.args.out.now 20 c.loop-i.invariant part c.put_group-at.ensures.put c.put_group-at.ensures.value
 
 pub returns : goal.returns
 returns c =

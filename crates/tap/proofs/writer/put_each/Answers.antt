@@ -14,11 +14,11 @@ put_form-at-requires c =
 pub loop-i-preserved : goal.loop-i-preserved
 loop-i-preserved c =
     let next = tap_data-next c.args.version c.args.durations.now c.loop-i.i c.loop-i-test.true in
-    DataPut-next c.args.version c.args.durations.now c.args.out.now c.args.start c.loop-i.invariant next c.put_form-at.ensures.out_after c.put_form-at.ensures.value
+    DataPut-next c.args.version c.args.durations.now c.args.out.now c.args.start c.loop-i.invariant next c.put_form-at.ensures.put c.put_form-at.ensures.value
 
 pub returns : goal.returns
 returns c =
-    (
-      DataPut-end c.args.version c.args.durations.now c.args.out.now c.args.start c.loop-i.invariant c.loop-i-test.false,
-      DataPut-done c.args.version c.args.durations.now c.args.out.now c.args.start c.loop-i.invariant c.loop-i-test.false,
-    )
+    record {
+      value = DataPut-end c.args.version c.args.durations.now c.args.out.now c.args.start c.loop-i.invariant c.loop-i-test.false;
+      put = DataPut-done c.args.version c.args.durations.now c.args.out.now c.args.start c.loop-i.invariant c.loop-i-test.false;
+    }

@@ -6,9 +6,9 @@ use Rattle.tap.proofs.writer.put_file.Goals as goal
 
 pub returns-then-out-count : goal.returns-then-out-count
 returns-then-out-count c =
-    put_file-no_room c.args.out.now c.args.version (tap_data c.args.version c.args.durations.now) c.requires.n_value c.if-out-count.true c.at.ensures
+    put_file-no_room c.args.out.now c.args.version (tap_data c.args.version c.args.durations.now) c.requires.count c.if-out-count.true c.at.ensures
 
 pub returns : goal.returns
 returns c =
-    put_file-accepted c.args.out.now c.args.version (tap_data c.args.version c.args.durations.now) c.requires.n_value c.if-out-count.false
-    c.tap_header-front.ensures c.copy.ensures.1 c.put_data.ensures
+    put_file-accepted c.args.out.now c.args.version (tap_data c.args.version c.args.durations.now) c.requires.count c.if-out-count.false
+    c.tap_header-front.ensures c.copy_from_slice.ensures.after c.put_data.ensures

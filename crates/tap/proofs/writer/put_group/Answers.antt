@@ -15,7 +15,8 @@ put_units-requires c =
 
 pub returns-then-all_bytes : goal.returns-then-all_bytes
 returns-then-all_bytes c =
-    let units = tap_data-units c.args.version c.args.durations.now (sym c.all_bytes.ensures ∙ c.if-all_bytes.true) in (
-      ap (λ n. c.args.at + n) (sym (ap length units ∙ length-map c.args.durations.now byte_units)),
-      c.put_units.ensures ∙ ap (sets c.args.out.now c.args.at) (sym units),
-    )
+    let units = tap_data-units c.args.version c.args.durations.now (sym c.all_bytes.ensures ∙ c.if-all_bytes.true) in
+    record {
+      value = ap (λ n. c.args.at + n) (sym (ap length units ∙ length-map c.args.durations.now byte_units));
+      put = c.put_units.ensures ∙ ap (sets c.args.out.now c.args.at) (sym units);
+    }

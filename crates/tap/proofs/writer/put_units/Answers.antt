@@ -11,4 +11,4 @@ use Rattle.tap.proofs.writer.put_units.Goals as goal
 
 pub loop-i-preserved : goal.loop-i-preserved
 loop-i-preserved c =
-    (omega arith, copy-mapped-next byte_units c.args.durations.now c.args.out.now c.args.at c.loop-i.invariant.1 c.loop-i-test.true c.byte_units.ensures.result_value)
+    (omega arith, copy-mapped-next byte_units c.args.durations.now c.args.out.now c.args.at c.loop-i.invariant.1 c.loop-i-test.true c.byte_units.ensures.value)

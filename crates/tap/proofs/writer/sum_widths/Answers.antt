@@ -17,4 +17,5 @@ loop-i-preserved c =
 
 pub returns : goal.returns
 returns c =
-    measure-done c.args.version c.args.durations.now c.loop-i.invariant c.loop-i-test.false
+    let done = measure-done c.args.version c.args.durations.now c.loop-i.invariant c.loop-i-test.false in
+    record { bytes = done.0; missing = done.1 }
