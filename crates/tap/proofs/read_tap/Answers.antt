@@ -1,5 +1,4 @@
 -- `tap::read_tap` meets its contract: what the header comes to, and then the data.
-use borrow.Author.Rules.{rules}
 use Rattle.tap.proofs.ReaderLaws.{read_tap-wrong_header, tap_version-long, read_tap-sound_header}
 use Rattle.tap.proofs.read_tap.Goals as goal
 

@@ -1,6 +1,5 @@
 -- `tap::write_tap` meets its contract: refusals 1, 11 and 13, and then what is written.
 use native.Mathlib.Omega.{arith}
-use borrow.Author.Rules.{rules}
 use Rattle.tap.proofs.FormLaws.{width-tap_data}
 use Rattle.tap.proofs.WriterLaws.{write_tap-wrong_size, write_tap-wrong_tap_version, write_tap-no_tap_form, length-data_of, write_tap-put_file}
 use Rattle.tap.proofs.write_tap.Goals as goal

@@ -1,6 +1,5 @@
 -- `tap::forms::byte_units` meets its contract: between two units there is none, and a whole number counts where one byte holds it.
 use native.Mathlib.Omega.{arith}
-use borrow.Author.Rules.{rules}
 use Rattle.tap.proofs.UnitLaws.{units_of-none, units_of-few, units_of-many}
 use Rattle.tap.proofs.forms.byte_units.Goals as goal
 

@@ -1,5 +1,4 @@
 -- `tap::forms::form_width` meets its contract: code and definition go by the same tests.
-use borrow.Author.Rules.{rules}
 use Rattle.tap.proofs.FormLaws.{width-byte, width-zero, width-missing, width-long, width-over}
 use Rattle.tap.proofs.forms.form_width.Goals as goal
 

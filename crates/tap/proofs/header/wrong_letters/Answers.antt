@@ -1,10 +1,6 @@
 -- `tap::header::wrong_letters` meets its contract: too few bytes, or other letters in front.
-use native.Mathlib.Omega.{arith}
-use mathlib.Core.Path.{sym}
-use borrow.Author.Rules.{rules}
-use lib.Seq.{length-take-le}
 use Rattle.lists.specs.Text.{ascii}
-use Rattle.tap.proofs.HeaderLaws.{wrong_letters-short, wrong_letters-same}
+use Rattle.tap.proofs.HeaderLaws.{wrong_letters-same}
 use Rattle.tap.proofs.header.wrong_letters.Goals as goal
 
 pub returns : goal.returns

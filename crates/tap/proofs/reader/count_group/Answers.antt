@@ -1,7 +1,6 @@
 -- `tap::reader::count_group` meets its contract: as many durations as bytes where none of them is 0; else the last group form by form, and any other by its zero bytes.
 use native.Mathlib.Omega.{arith}
 use mathlib.Core.Path.{sym, ◌∙◌}
-use borrow.Author.Rules.{rules}
 use Rattle.tap.proofs.ReaderLaws.{count-run}
 use Rattle.tap.proofs.reader.count_group.Goals as goal
 

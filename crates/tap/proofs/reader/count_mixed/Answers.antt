@@ -1,6 +1,5 @@
 -- `tap::reader::count_mixed` meets its contract: by the number of zero bytes where each begins a long form, and else form by form.
 use native.Mathlib.Omega.{arith}
-use borrow.Author.Rules.{rules}
 use Rattle.tap.proofs.ApartLaws.{apart-counted}
 use Rattle.tap.proofs.reader.count_mixed.Goals as goal
 

@@ -2,7 +2,6 @@
 use native.Mathlib.Nat.{zero-add}
 use native.Mathlib.Omega.{arith}
 use mathlib.Core.Path.{sym, ap, ◌∙◌}
-use borrow.Author.Rules.{rules}
 use lib.ListN.{length-map}
 use lib.Seq.{sets}
 use Rattle.refusal.specs.Outcome.{puts}

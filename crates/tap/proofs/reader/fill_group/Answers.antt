@@ -2,7 +2,6 @@
 use Prim.Native.Nat.{◌+◌}
 use native.Mathlib.Omega.{arith}
 use mathlib.Core.Path.{sym, ◌∙◌, ap}
-use borrow.Author.Rules.{rules}
 use lib.ListN.{length-map}
 use Rattle.tap.proofs.DataLaws.{length_run, durations_from-run}
 use Rattle.tap.proofs.ReaderLaws.{fillable-room, fill-begun, fill_step}

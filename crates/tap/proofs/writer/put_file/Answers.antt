@@ -1,5 +1,4 @@
 -- `tap::writer::put_file` meets its contract: refusal 2, and else the header and after it the data.
-use borrow.Author.Rules.{rules}
 use Rattle.tap.specs.Tap.{tap_data}
 use Rattle.tap.proofs.WriterLaws.{put_file-no_room, put_file-accepted}
 use Rattle.tap.proofs.writer.put_file.Goals as goal

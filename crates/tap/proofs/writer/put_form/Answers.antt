@@ -1,5 +1,4 @@
 -- `tap::writer::put_form` meets its contract: the width tells the form.
-use borrow.Author.Rules.{rules}
 use Rattle.tap.proofs.WriterLaws.{put_form-one, put_form-four, put_form-none}
 use Rattle.tap.proofs.writer.put_form.Goals as goal
 

@@ -1,7 +1,6 @@
 -- `tap::writer::put_group` meets its contract: units where all durations have the one-byte form, and else form by form.
 use Prim.Native.Nat.{◌+◌}
 use mathlib.Core.Path.{sym, ap, ◌∙◌}
-use borrow.Author.Rules.{rules}
 use lib.ListN.{length, length-map}
 use lib.Seq.{sets}
 use Rattle.tap.specs.private.Forms.{byte_units}
