@@ -1,14 +1,12 @@
 -- `bench::tally` meets its contract. The loop's invariant: the tally so far, with the bytes that are left, gives the whole.
-use Prim.Native.Nat.{◌-◌, ◌*◌, ◌/◌, ◌≤◌}
+use Prim.Native.Nat.{◌*◌, ◌/◌}
 use native.Mathlib.Omega.{arith}
-use mathlib.Core.Path.{◌≡◌, sym, ◌∙◌}
-use borrow.Author.Rules.{rules}
+use mathlib.Core.Path.{sym, ◌∙◌}
 use lib.ListN.{length, length-map}
 use Rattle.pulse.specs.Pulse.{classes}
 use Rattle.byte.proofs.ByteLaws.{read_frame-part}
 use Rattle.bench.specs.declared.BenchTally.{BenchTally}
-use Rattle.bench.specs.Bench.{tally_of}
-use Rattle.bench.proofs.TallyLaws.{tally_left, tally-begun, tally-next, tally-over}
+use Rattle.bench.proofs.TallyLaws.{tally-begun, tally-next, tally-over}
 use Rattle.bench.proofs.tally.Goals as goal
 use Rattle.bench.proofs.tally.Goals.{in-Value, in_default}
 
