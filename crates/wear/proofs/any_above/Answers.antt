@@ -1,5 +1,4 @@
 -- `wear::any_above` meets its contract: eleven tests.
-use borrow.Author.Rules.{rules}
 use Rattle.wear.proofs.Adding.{any-eleven}
 use Rattle.wear.proofs.any_above.Goals as goal
 

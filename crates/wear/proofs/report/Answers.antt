@@ -1,7 +1,6 @@
 -- `wear::report` meets its contract: refusal 1, and else the totals with the strip added.
 use Rattle.pulse.specs.Pulse.{fixed}
-use Rattle.wear.proofs.Adding.{report-refused, report-open, sums-fit, report-added}
-use borrow.Author.Rules.{rules}
+use Rattle.wear.proofs.Adding.{report-refused, sums-fit, report-added}
 use Rattle.wear.proofs.report.Goals as goal
 
 pub returns-then-is_full-strip : goal.returns-then-is_full-strip

@@ -1,13 +1,10 @@
 -- `wear::count::count_classes` meets its contract. The invariant: what was counted, with the classes of the pulses that are left, is all.
 use Rattle.pulse.specs.declared.Class.TheVariants.{Short, Medium, Long}
-use Prim.Native.Nat.{◌-◌}
 use native.Mathlib.Omega.{arith}
 use mathlib.Core.Path.{ap, ◌∙◌}
-use borrow.Author.Rules.{rules}
-use lib.ListN.{length}
 use Rattle.pulse.specs.Pulse.{classes}
 use Rattle.wear.specs.private.Counts.{pulses_of}
-use Rattle.wear.proofs.ClassLaws.{Sorting, sorting-begun, count-few, sorting-next, sorting-few, sorting-done}
+use Rattle.wear.proofs.ClassLaws.{count-few, sorting-next, sorting-few, sorting-done}
 use Rattle.wear.proofs.count.count_classes.Goals as goal
 
 pub overflow_add-shorts : goal.overflow_add-shorts

@@ -4,7 +4,6 @@ use lib.ListN.{length-map}
 use Rattle.pulse.specs.Pulse.{class_of, fixed, classes}
 use Rattle.block.specs.Looking.{place_answer}
 use Rattle.wear.proofs.Steps.{byte-there, byte-read}
-use borrow.Author.Rules.{rules}
 use Rattle.wear.proofs.walk.byte_at.Goals as goal
 
 pub returns-in-Refused : goal.returns-in-Refused

@@ -3,7 +3,6 @@ use Rattle.pulse.specs.Pulse.{fixed, classes}
 use Rattle.start.specs.Copies.{copy_two}
 use Rattle.block.specs.Reading.{value_at}
 use Rattle.wear.proofs.Steps.{fields-front}
-use borrow.Author.Rules.{rules}
 use Rattle.wear.proofs.walk.fields_at.Goals as goal
 
 pub returns : goal.returns

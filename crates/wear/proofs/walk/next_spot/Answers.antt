@@ -3,8 +3,7 @@ use mathlib.Core.Path.{sym, ap, ◌∙◌}
 use lib.ListN.{length-map}
 use Rattle.pulse.specs.Pulse.{class_of, fixed, classes}
 use Rattle.block.specs.Reading.{block_answer}
-use Rattle.wear.proofs.Steps.{next-refused, next-within, next-accepted}
-use borrow.Author.Rules.{rules}
+use Rattle.wear.proofs.Steps.{next-within, next-accepted}
 use Rattle.wear.proofs.walk.next_spot.Goals as goal
 
 pub next_trial-requires : goal.next_trial-requires

@@ -4,7 +4,6 @@ use lib.ListN.{length-map}
 use Rattle.pulse.specs.Pulse.{class_of, fixed, classes}
 use Rattle.block.specs.Block.{wrong_size}
 use Rattle.wear.proofs.Steps.{step-wrong_size, step-NoStart, step-within, step-found}
-use borrow.Author.Rules.{rules}
 use Rattle.wear.proofs.walk.step_at.Goals as goal
 
 pub returns-then-wrong_size : goal.returns-then-wrong_size

@@ -1,7 +1,6 @@
 -- `wear::walk::try_at` meets its contract.
 use Rattle.pulse.specs.Pulse.{fixed, classes}
 use Rattle.wear.proofs.Steps.{tried-reads, tried-block}
-use borrow.Author.Rules.{rules}
 use Rattle.wear.proofs.walk.try_at.Goals as goal
 
 pub next_spot-requires : goal.next_spot-requires
