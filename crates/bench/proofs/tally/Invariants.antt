@@ -14,7 +14,7 @@ use Rattle.bench.proofs.tally.Given as goal
 
 abbrev pub invariant-loop-i : goal.invariant-loop-i
 invariant-loop-i l =
-    (l.i ≤ l.count) × ((l.good ≤ l.i) × (tally_left (classes l.t l.pulses) l.count (record { l.good = l.good; l.xor = l.xor }) l.i ≡ tally_of (classes l.t l.pulses)))
+    (l.i ≤ l.count) × ((l.good ≤ l.i) × (tally_left (classes l.t l.pulses) l.count (record { good = l.good; xor = l.xor }) l.i ≡ tally_of (classes l.t l.pulses)))
 
 abbrev pub decreases-loop-i : goal.decreases-loop-i
 decreases-loop-i l = l.count - l.i
