@@ -30,7 +30,7 @@ use Rattle.byte.specs.Damage.{differ}
 use Rattle.start.specs.Copies.{end_of}
 use Rattle.byte.specs.declared.ByteRead.TheVariants.{Good}
 use Rattle.block.specs.declared.Extent.{Extent}
-use Rattle.block.specs.Block.{outside}
+use Rattle.deck.specs.Limit.{outside}
 use Rattle.block.specs.declared.PlaceRead.{PlaceRead}
 use Rattle.block.specs.declared.PlaceRead.TheVariants.{One, Two, Neither}
 use Rattle.block.specs.Looking.{place_read}

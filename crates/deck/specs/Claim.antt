@@ -15,10 +15,11 @@ use Rattle.byte.specs.Byte.{byte_at}
 use Rattle.start.specs.Start.{start_of}
 use Rattle.start.specs.Copies.{byte_place, copy_two, end_of}
 use Rattle.block.specs.declared.Extent.{Extent}
-use Rattle.block.specs.Block.{outside, wrong_size, wrong_leader}
-use Rattle.block.specs.Reading.{BlockRead, extent_of, payload_of, read_copies, read_up_to, read_block}
+use Rattle.block.specs.Block.{wrong_size, wrong_leader}
+use Rattle.block.specs.Reading.{BlockRead, extent_of, payload_of, read_copies, read_block}
 use Rattle.block.specs.Damage.{Damaged}
 use Rattle.deck.specs.declared.Deck.{Deck}
+use Rattle.deck.specs.Limit.{outside, read_up_to}
 use Rattle.deck.specs.Work.{fits, value_byte, cause_byte}
 use Rattle.deck.specs.Calls.{Lent, lent, refusing, is_sound, is_closed, begin_deck, take_run, take_end, Saying, Silent, Answered, Denied, said_by}
 

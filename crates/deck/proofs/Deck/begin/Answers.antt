@@ -1,0 +1,21 @@
+use native.Mathlib.Omega.{arith}
+use Rattle.deck.proofs.Answering.{begin-size, begin-room, begin-seeking, inside-le}
+use borrow.Author.Rules.{rules}
+use Rattle.deck.proofs.Deck.begin.Reads as reads
+use Rattle.deck.proofs.Deck.begin.Lts as lts
+use Rattle.deck.proofs.state.not_begun.Reads as not-begun-reads
+use Rattle.deck.proofs.state.seeking.Reads as seeking-reads
+use Rattle.deck.proofs.work.has_room.Reads as has-room-reads
+use Rattle.deck.proofs.Deck.begin.Goals as goal
+
+-- src/lib.rt:91:13
+pub returns-then-n : goal.returns-then-n
+returns-then-n c = begin-size c.args.n c.args.working c.args.room c.if-n.true c.not_begun.ensures
+
+-- src/lib.rt:94:13
+pub returns-then-not-has_room : goal.returns-then-not-has_room
+returns-then-not-has_room c = begin-room c.args.n c.args.working c.args.room c.if-n.false c.has_room.ensures c.if-not-has_room.true-raw c.not_begun-then-not-has_room.ensures
+
+-- src/lib.rt:87:5
+pub returns : goal.returns
+returns c = begin-seeking c.args.n c.args.working c.args.room c.if-n.false c.has_room.ensures c.if-not-has_room.false-raw c.seeking.ensures

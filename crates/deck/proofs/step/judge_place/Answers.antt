@@ -1,0 +1,29 @@
+use native.Mathlib.Omega.{arith}
+use Rattle.deck.proofs.Stepping.{judged-countdown, judged-next, judged-last}
+use borrow.Author.Rules.{rules}
+use Rattle.deck.proofs.step.judge_place.Reads as reads
+use Rattle.deck.proofs.step.judge_place.Lts as lts
+use Rattle.deck.proofs.decode.fresh.Reads as fresh-reads
+use Rattle.deck.proofs.judge.answer_of.Reads as answer-of-reads
+use Rattle.deck.proofs.judge.check_countdown.Reads as check-countdown-reads
+use Rattle.deck.proofs.judge.check_value.Reads as check-value-reads
+use Rattle.deck.proofs.judge.place_of.Reads as place-of-reads
+use Rattle.deck.proofs.judge.value_of.Reads as value-of-reads
+use Rattle.deck.proofs.state.in_two.Reads as in-two-reads
+use Rattle.deck.proofs.state.told.Reads as told-reads
+use Rattle.deck.proofs.step.fill_accepted.Reads as fill-accepted-reads
+use Rattle.deck.proofs.step.mend.Reads as mend-reads
+use Rattle.deck.proofs.work.get.Reads as get-reads
+use Rattle.deck.proofs.step.judge_place.Goals as goal
+
+-- src/step.rt:137:9
+pub returns-then-place-lt-COUNTDOWN : goal.returns-then-place-lt-COUNTDOWN
+returns-then-place-lt-COUNTDOWN c = judged-countdown c.before.before.before.before.before.before.before.before.args.n c.before.before.before.before.before.before.before.before.args.taken c.before.before.before.before.before.before.before.before.args.start c.before.before.before.before.before.before.before.before.args.place c.before.before.before.before.before.before.before.before.args.two c.before.before.before.before.before.before.before.before.args.checks c.before.before.before.before.before.before.before.before.args.work.now c.before.before.before.before.before.before.before.before.args.out.now c.get-one.ensures (omega arith) c.check_countdown-more.ensures c.fresh.ensures c.in_two.ensures
+
+-- src/step.rt:143:9
+pub returns-then-place-n : goal.returns-then-place-n
+returns-then-place-n c = judged-next c.before.before.before.before.before.before.before.before.before.before.before.before.before.before.args.n c.before.before.before.before.before.before.before.before.before.before.before.before.before.before.args.taken c.before.before.before.before.before.before.before.before.before.before.before.before.before.before.args.start c.before.before.before.before.before.before.before.before.before.before.before.before.before.before.args.place c.before.before.before.before.before.before.before.before.before.before.before.before.before.before.args.two c.before.before.before.before.before.before.before.before.before.before.before.before.before.before.args.checks c.before.before.before.before.before.before.before.before.before.before.before.before.before.before.args.work.now c.before.before.before.before.before.before.before.before.before.before.before.before.before.before.args.out.now c.get-one.ensures c.place_of-read.ensures (omega arith) c.check_value-more.ensures c.mend.ensures (omega arith) c.fresh-then-place-n.ensures c.in_two-then-place-n.ensures
+
+-- src/step.rt:121:1
+pub returns : goal.returns
+returns c = judged-last c.before.before.before.before.before.before.before.before.before.before.before.before.before.before.before.before.before.before.before.before.args.n c.before.before.before.before.before.before.before.before.before.before.before.before.before.before.before.before.before.before.before.before.args.taken c.before.before.before.before.before.before.before.before.before.before.before.before.before.before.before.before.before.before.before.before.args.start c.before.before.before.before.before.before.before.before.before.before.before.before.before.before.before.before.before.before.before.before.args.place c.before.before.before.before.before.before.before.before.before.before.before.before.before.before.before.before.before.before.before.before.args.two c.before.before.before.before.before.before.before.before.before.before.before.before.before.before.before.before.before.before.before.before.args.checks c.before.before.before.before.before.before.before.before.before.before.before.before.before.before.before.before.before.before.before.before.args.work.now c.before.before.before.before.before.before.before.before.before.before.before.before.before.before.before.before.before.before.before.before.args.out.now c.get.ensures c.place_of.ensures (omega arith) c.check-value.ensures c.mend.ensures c.before.before.before.before.before.before.before.before.before.before.before.before.before.before.before.before.before.before.before.before.requires.1 (omega arith) c.answer-of.ensures c.value_of_lem.ensures c.fill_accepted.ensures c.told.ensures
