@@ -88,8 +88,8 @@ fn answer_of(
 // Rules 4 and 5 at places 0 to n, and the bad bytes there. A lost place counts as 0 in the sum.
 fn count_places(t: Thresholds, strip: &[u32], one: usize, two: usize, n: usize) -> Counted
     requires { (one ≤ two) × (two + copy_pulses n ≤ length strip.now) }
-    ensures tally_value { result.tally ≡ tally_of (classes t strip.now) one two n }
-    ensures check_value { result.check ≡ check_of (first_from (is_lost (classes t strip.now) one two) (n + 1) 0) (sum_holds (classes t strip.now) one two n) (repairs (classes t strip.now) one two n) }
+    ensures tally { result.tally ≡ tally_of (classes t strip.now) one two n }
+    ensures check { result.check ≡ check_of (first_from (is_lost (classes t strip.now) one two) (n + 1) 0) (sum_holds (classes t strip.now) one two n) (repairs (classes t strip.now) one two n) }
 {
     let mut sum: u8 = 0;
     let mut repaired: usize = 0;

@@ -56,8 +56,8 @@ fn read_copies(
     n: usize,
     out: &mut [u8],
 ) -> BlockAnswer
-    requires two_value { (copies.two ≡ copy_two copies.one n) × (copies.end ≡ end_of copies.one n) × (copies.end ≤ length strip.now) }
-    requires n_bound { (n ≤ 8192) × (n ≤ length out.old) }
+    requires placed { (copies.two ≡ copy_two copies.one n) × (copies.end ≡ end_of copies.one n) × (copies.end ≤ length strip.now) }
+    requires room { (n ≤ 8192) × (n ≤ length out.old) }
     ensures { BlockPromise (read_copies (classes t strip.now) copies.one n) out.old result out.new }
 {
     let one = copies.one;

@@ -25,7 +25,7 @@ pub fn fill_values(
     row: &[u8],
     out: &mut [u8],
 )
-    requires one_le_two { (one ≤ two) × (two + copy_pulses n ≤ length strip.now) × (n ≤ length out.old) }
+    requires within { (one ≤ two) × (two + copy_pulses n ≤ length strip.now) × (n ≤ length out.old) }
     requires none_lost { NoneLost (classes t strip.now) one two n × (repaired ≡ repairs (classes t strip.now) one two n) × Flagged (classes t strip.now) one two n row.now }
     ensures { out.new ≡ sets out.old 0 (values_at (classes t strip.now) one two n) }
 {
@@ -53,7 +53,7 @@ fn mend_runs(
     row: &[u8],
     out: &mut [u8],
 )
-    requires one_le_two { (one ≤ two) × (two + copy_pulses n ≤ length strip.now) × (n ≤ length out.old) }
+    requires within { (one ≤ two) × (two + copy_pulses n ≤ length strip.now) × (n ≤ length out.old) }
     requires none_lost { NoneLost (classes t strip.now) one two n × Flagged (classes t strip.now) one two n row.now × HoldsBits t strip.now one n out.old 0 }
     ensures { out.new ≡ sets out.old 0 (values_at (classes t strip.now) one two n) }
 {
@@ -107,7 +107,7 @@ fn fill_places(
     end: usize,
     out: &mut [u8],
 )
-    requires from_le_end { (from ≤ end) × (one ≤ two) × (two + 20 * (9 + end) ≤ length strip.now) × (end ≤ length out.old) }
+    requires within { (from ≤ end) × (one ≤ two) × (two + 20 * (9 + end) ≤ length strip.now) × (end ≤ length out.old) }
     requires none_lost { NoneLost (classes t strip.now) one two end }
     ensures { out.new ≡ sets out.old from (tabulate (value_at (classes t strip.now) one two) (end - from) from) }
 {

@@ -20,4 +20,4 @@ returns-in-Refused c =
 pub returns-in-Accepted : goal.returns-in-Accepted
 returns-in-Accepted c =
     place-accepted fixed c.args.strip.now c.args.start c.args.n c.copies_at.ensures c.in-Accepted.is c.args.i c.if-n-i.false
-    (rw c.fixed.ensures at c.IsPlace-in.ensures)
+    (rw c.fixed.ensures at c.place_in.ensures)

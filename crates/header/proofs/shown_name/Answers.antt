@@ -19,7 +19,8 @@ count c = rw c.shown_count-end.ensures (shown_count-shown c.args.header.now 16).
 
 pub returns-in_default : goal.returns-in_default
 returns-in_default c =
-    shown_name-refused h.now c.unpack-header.ensures c.enum-told2.given.1 h.ref_ptr
+    let both = shown_name-refused c.args.header.now c.unpack_header.ensures c.in_default.is c.args.header.ref_ptr in
+    record { bytes = both.0; place = both.1 }
 
 pub shown_count-end-requires : goal.shown_count-end-requires
 shown_count-end-requires c = let l = long c in omega arith
@@ -27,9 +28,13 @@ shown_count-end-requires c = let l = long c in omega arith
 pub overflow_add-end : goal.overflow_add-end
 overflow_add-end c = let l = count c in omega arith
 
+pub slice_bounds-result-end-2 : goal.slice_bounds-result-end-2
+slice_bounds-result-end-2 c =
+    let l = shown_name-long c.args.header.now c.unpack_header.ensures c.in-Accepted.is in
+    let k = count c in
+    search rules
+
 pub returns : goal.returns
 returns c =
-    shown_name-accepted c.args.header.now c.unpack_header.ensures c.in-Accepted.is c.shown_count-end.ensures c.args.header.ref_ptr
-
-pub slice_bounds-result-end-2 : goal.slice_bounds-result-end-2
-slice_bounds-result-end-2 c = ?
+    let both = shown_name-accepted c.args.header.now c.unpack_header.ensures c.in-Accepted.is c.shown_count-end.ensures c.args.header.ref_ptr in
+    record { bytes = both.0; place = both.1 }

@@ -29,9 +29,10 @@ returns c =
     let cs = classes c.args.t c.args.strip.now in
     let at = 20 * (9 + c.args.i) in
     let one = read_frame-part c.args.t c.args.strip.now (c.args.one + at) (omega arith) in
-    let two = read_frame-part c.args.t c.args.strip.now (c.args.two + at) (omega arith) in (
-      c.source_of.ensures
+    let two = read_frame-part c.args.t c.args.strip.now (c.args.two + at) (omega arith) in record {
+      value =
+          c.source_of.ensures
           ∙ ap₂ source_in (c.read_frame-in_one.ensures ∙ one) (c.read_frame-in_two.ensures ∙ two)
-          ∙ source-at cs c.args.one c.args.two c.args.i,
-      c.count_bad-2.ensures ∙ ap (with_byte (byte_at cs (c.args.two + at))) c.count_bad.ensures,
-    )
+          ∙ source-at cs c.args.one c.args.two c.args.i;
+      bad_after = c.count_bad-2.ensures ∙ ap (with_byte (byte_at cs (c.args.two + at))) c.count_bad.ensures
+    }

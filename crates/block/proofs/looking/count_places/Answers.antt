@@ -3,7 +3,6 @@
 use Prim.Native.Nat.{◌+◌, ◌-◌}
 use native.Mathlib.Omega.{arith}
 use mathlib.Core.Path.{sym, ◌∙◌}
-use mathlib.Core.Logic.{⊎_elim}
 use Rattle.pulse.specs.Pulse.{classes}
 use Rattle.block.specs.Reading.{place_at}
 use Rattle.block.proofs.SourceLaws.{source_one, source-two, source-lost}
@@ -11,6 +10,7 @@ use Rattle.block.proofs.CauseCounts.{Told, told-begun, told-small, told-next, to
 use Rattle.block.proofs.Counting.{Counting, counting-begun, counting-few, counting-one, counting-two, counting-lost, counted-one, counted-tally, counted-check, counted-last}
 use borrow.Author.Rules.{rules}
 use Rattle.block.proofs.looking.count_places.Goals as goal
+use Rattle.block.proofs.looking.count_places.Goals.{in-One, in-Two, in-Neither}
 
 pub loop-i-init : goal.loop-i-init
 loop-i-init c = (counting-begun _ _ _ _, told-begun _ _ _)
@@ -28,12 +28,11 @@ pub loop-i-preserved : goal.loop-i-preserved
 loop-i-preserved c =
     let place = place_at (classes c.args.t c.args.strip.now) c.args.one c.args.two c.loop-i.i in
     let e = sym c.count_place.ensures.value in (
-      ⊎_elim
-          (λ w. counting-one c.loop-i.invariant.0 c.loop-i-test.true (source_one _ (e ∙ w.1.given.1)) w.3 w.4 w.5 w.6)
-          (⊎_elim
-          (λ w. counting-two c.loop-i.invariant.0 c.loop-i-test.true (source-two _ (e ∙ w.1.given.1)) w.3 w.4 w.5 w.6)
-          (λ w. counting-lost c.loop-i.invariant.0 c.loop-i-test.true (source-lost place (e ∙ w.1.given.1)) w.3 w.4 (w.6 ∙ w.2.ensures) w.5))
-          c.match-count_place.branch,
+      elim c.match-count_place.branch [
+        | in-One w ↦ counting-one c.loop-i.invariant.0 c.loop-i-test.true (source_one _ (e ∙ w.in-One.is)) w.sum-is w.repaired-is w.lost-is w.first-is
+        | in-Two w ↦ counting-two c.loop-i.invariant.0 c.loop-i-test.true (source-two _ (e ∙ w.in-Two.is)) w.sum-is w.repaired-is w.lost-is w.first-is
+        | in-Neither w ↦ counting-lost c.loop-i.invariant.0 c.loop-i-test.true (source-lost place (e ∙ w.in-Neither.is)) w.sum-is w.repaired-is (w.first-is ∙ w.first_lost-first.ensures) w.lost-is
+      ],
       told-next _ _ _ c.loop-i.invariant.1 c.count_place.ensures.bad_after,
     )
 
@@ -45,4 +44,4 @@ overflow_sub-result-2 c = let whole = counted-one c.loop-i.invariant.0 c.loop-i-
 
 pub returns : goal.returns
 returns c =
-    record { tally_value = counted-tally c.loop-i.invariant.0 c.loop-i-test.false (c.by_cause.ensures ∙ told-all _ _ _ c.loop-i.invariant.1 _ (counted-last c.loop-i.invariant.0 c.loop-i-test.false)); check_value = c.check_of.ensures ∙ counted-check c.loop-i.invariant.0 c.loop-i-test.false }
+    record { tally = counted-tally c.loop-i.invariant.0 c.loop-i-test.false (c.by_cause.ensures ∙ told-all _ _ _ c.loop-i.invariant.1 _ (counted-last c.loop-i.invariant.0 c.loop-i-test.false)); check = c.check_of.ensures ∙ counted-check c.loop-i.invariant.0 c.loop-i-test.false }

@@ -11,10 +11,10 @@ answer_of-requires c =
     (
       omega arith,
       omega arith,
-      check-there (classes c.args.t c.args.strip.now) c.args.copies.one c.args.copies.two c.args.n _ _ c.count_places-counted.ensures.check_value,
+      check-there (classes c.args.t c.args.strip.now) c.args.copies.one c.args.copies.two c.args.n _ _ c.count_places-counted.ensures.check,
     )
 
 pub returns : goal.returns
 returns c =
     look-copied (classes c.args.t c.args.strip.now) c.args.copies.one c.args.n c.args.copies.two c.args.copies.end c.first_miscounted-miscounted.result c.answer_of.result
-    c.requires.0 c.requires.1 c.first_miscounted-miscounted.ensures c.count_places-counted.ensures.check_value c.answer_of.ensures c.count_places-counted.ensures.tally_value
+    c.requires.0 c.requires.1 c.first_miscounted-miscounted.ensures c.count_places-counted.ensures.check c.answer_of.ensures c.count_places-counted.ensures.tally

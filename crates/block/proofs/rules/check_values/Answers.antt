@@ -3,13 +3,13 @@
 use Prim.Native.Nat.{◌+◌, ◌-◌}
 use native.Mathlib.Omega.{arith}
 use mathlib.Core.Path.{sym, ◌∙◌}
-use mathlib.Core.Logic.{⊎_elim}
 use borrow.Author.Rules.{rules}
 use Rattle.pulse.specs.Pulse.{classes}
 use Rattle.block.specs.Reading.{place_at}
 use Rattle.block.proofs.SourceLaws.{source_one, source-two, source-lost}
 use Rattle.block.proofs.Checking.{Checking, checking-begun, check_values-lost, check_values-sound, check_values-wrong_sum, checking-few, checking-one, checking-two}
 use Rattle.block.proofs.rules.check_values.Goals as goal
+use Rattle.block.proofs.rules.check_values.Goals.{in-One, in-Two}
 
 pub loop-i-init : goal.loop-i-init
 loop-i-init c = checking-begun _ _ _ _ _
@@ -25,10 +25,10 @@ returns-in-Neither c =
 pub loop-i-preserved : goal.loop-i-preserved
 loop-i-preserved c =
     let e = sym c.read_place.ensures in
-    ⊎_elim
-    (λ w. checking-one c.loop-i.invariant c.loop-i-test.true w.4 (source_one _ (e ∙ w.1.given.1)) w.3 w.5)
-    (λ w. checking-two c.loop-i.invariant c.loop-i-test.true w.8 c.requires.2 (source-two _ (e ∙ w.1.given.1)) (w.7 ∙ w.4.ensures) w.9)
-    c.match-read_place.branch
+    elim c.match-read_place.branch [
+      | in-One w ↦ checking-one c.loop-i.invariant c.loop-i-test.true w.sum-is (source_one _ (e ∙ w.in-One.is)) w.row-is w.repaired-is
+      | in-Two w ↦ checking-two c.loop-i.invariant c.loop-i-test.true w.sum-is c.requires.2 (source-two _ (e ∙ w.in-Two.is)) (w.row-is ∙ w.raise_flag.ensures) w.repaired-is
+    ]
 
 pub returns-then-sum-eq0 : goal.returns-then-sum-eq0
 returns-then-sum-eq0 c = check_values-sound c.loop-i.invariant c.loop-i-test.false c.if-sum-eq0.true

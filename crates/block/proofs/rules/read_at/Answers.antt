@@ -5,7 +5,7 @@ use Rattle.block.proofs.rules.read_at.Goals as goal
 
 pub read_copies-requires : goal.read_copies-requires
 read_copies-requires c =
-    record { two_value = copies-there c.args.t c.args.strip.now c.args.start c.args.n c.args.out.now c.locate_copies.ensures c.in-Accepted.is; n_bound = c.requires }
+    record { placed = copies-there c.args.t c.args.strip.now c.args.start c.args.n c.args.out.now c.locate_copies.ensures c.in-Accepted.is; room = c.requires }
 
 pub returns-in-Refused : goal.returns-in-Refused
 returns-in-Refused c =

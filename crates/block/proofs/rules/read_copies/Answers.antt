@@ -7,7 +7,7 @@ use Rattle.block.proofs.rules.read_copies.Goals as goal
 
 pub returns-in-At : goal.returns-in-At
 returns-in-At c =
-    read_copies-wrong_countdown c.args.t c.args.strip.now c.args.copies.one c.args.n c.args.out.now c.requires.two_value.0 c.first_miscounted.ensures c.in-At.is c.refused.ensures
+    read_copies-wrong_countdown c.args.t c.args.strip.now c.args.copies.one c.args.n c.args.out.now c.requires.placed.0 c.first_miscounted.ensures c.in-At.is c.refused.ensures
 
 pub lost_at-requires : goal.lost_at-requires
 lost_at-requires c =
@@ -17,19 +17,19 @@ lost_at-requires c =
 
 pub fill_values-requires : goal.fill_values-requires
 fill_values-requires c =
-    record { one_le_two = search rules; none_lost = check-passed c.check_values.ensures c.in-Sound.is }
+    record { within = search rules; none_lost = check-passed c.check_values.ensures c.in-Sound.is }
 
 pub returns-in-LostAt : goal.returns-in-LostAt
 returns-in-LostAt c =
-    read_copies-lost_byte c.args.t c.args.strip.now c.args.copies.one c.args.n c.args.out.now c.requires.two_value.0 c.first_miscounted.ensures c.in_default.is
+    read_copies-lost_byte c.args.t c.args.strip.now c.args.copies.one c.args.n c.args.out.now c.requires.placed.0 c.first_miscounted.ensures c.in_default.is
     c.check_values.ensures c.in-LostAt.is c.lost_at.ensures
 
 pub returns-in-WrongSum : goal.returns-in-WrongSum
 returns-in-WrongSum c =
-    read_copies-wrong_checksum c.args.t c.args.strip.now c.args.copies.one c.args.n c.args.out.now c.requires.two_value.0 c.first_miscounted.ensures c.in_default.is
+    read_copies-wrong_checksum c.args.t c.args.strip.now c.args.copies.one c.args.n c.args.out.now c.requires.placed.0 c.first_miscounted.ensures c.in_default.is
     c.check_values.ensures c.in-WrongSum.is c.refused-in-WrongSum.ensures
 
 pub returns-in-Sound : goal.returns-in-Sound
 returns-in-Sound c =
-    read_copies-accepted c.args.t c.args.strip.now c.args.copies.one c.args.n c.args.out.now c.requires.two_value.0 c.first_miscounted.ensures c.in_default.is
-    c.check_values.ensures c.requires.two_value.1 c.requires.n_bound.1 c.in-Sound.is c.fill_values.ensures
+    read_copies-accepted c.args.t c.args.strip.now c.args.copies.one c.args.n c.args.out.now c.requires.placed.0 c.first_miscounted.ensures c.in_default.is
+    c.check_values.ensures c.requires.placed.1 c.requires.room.1 c.in-Sound.is c.fill_values.ensures

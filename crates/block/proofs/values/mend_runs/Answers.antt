@@ -26,7 +26,7 @@ loop-i-preserved c =
     let values = run_value c.args.t c.args.strip.now c.args.one c.args.two c.args.n c.requires.none_lost.0 c.args.row.now c.loop-i.i _ c.requires.none_lost.1 c.run_end-end.ensures.1 c.run_end-end.ensures.2
     (sym c.flag.ensures ∙ c.if-flag.false) in (
       c.run_end-end.ensures.1,
-      values-there (classes c.args.t c.args.strip.now) c.args.one c.args.two c.args.n c.args.out.now (omega arith) c.run_end-end.ensures.1 c.requires.one_le_two.2 c.loop-i.invariant.1
+      values-there (classes c.args.t c.args.strip.now) c.args.one c.args.two c.args.n c.args.out.now (omega arith) c.run_end-end.ensures.1 c.requires.within.2 c.loop-i.invariant.1
           (λ j a b. c.loop-i.invariant.2 j a (omega (arith, c.run_end-end.ensures.1)) ∙ values j a b),
       λ j a b. c.loop-i.invariant.2 j (omega (arith, c.run_end-end.ensures.0)) b,
     )
