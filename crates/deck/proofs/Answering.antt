@@ -315,9 +315,7 @@ module _ (n : ℕ) (work out : List ℕ) {answer : ℕ} where
 pub mend-two : (work : List ℕ) (i v : ℕ) {r : PlaceRead} → r ≡ Two v → {work' : List ℕ} → work' ≡ put_byte work i (Good v) → work' ≡ mended work i (place_read r)
 mend-two work i v e q = rw (e, q)
 
--- by the variant's number, which is not that of `Two`
-pub mend-none : (work : List ℕ) (i : ℕ) (r : PlaceRead) → (tag_of the_type r ≡ 0) ⊎ (tag_of the_type r ≡ 2) → work ≡ mended work i (place_read r)
+pub mend-none : (work : List ℕ) (i : ℕ) (r : PlaceRead) → ((v : ℕ) → r ≡ Two v → ⊥) → work ≡ mended work i (place_read r)
 mend-none work i (One v) h = refl
-mend-none work i (Two v) (inl e) = absurd (let z : ◌≡◌ {A = ℕ} 1 0 = e in omega arith)
-mend-none work i (Two v) (inr e) = absurd (let z : ◌≡◌ {A = ℕ} 1 2 = e in omega arith)
+mend-none work i (Two v) h = absurd (h v refl)
 mend-none work i (Neither causes) h = refl

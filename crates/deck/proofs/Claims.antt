@@ -263,6 +263,7 @@ unfolding read_block
 reads = record {
   rule = reads-rule;
   strip = λ cs room n e. (let w = wrong_size-within n e in rw (e, size-right n (omega (arith, w.high)) e));
+  limit = λ cs room from n. refl;
 }
 
 -- ---- Damage

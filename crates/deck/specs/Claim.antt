@@ -116,6 +116,8 @@ pub record Reads : Type 0 where
       (said_by l.deck ≡ Answered (mapped extent_of o)) × (l.out ≡ put_at out 0 (puts (mapped payload_of o))))
   -- Where a block may have n bytes for it, this is the strip reader.
   pub strip : (cs : List Class) (room n : ℕ) → wrong_size n ≡ false → read_up_to 65534 cs room 0 n ≡ read_block cs room 0 n
+  -- With the limit 8,192 the rule is the strip reader's, from any place on.
+  pub limit : (cs : List Class) (room from n : ℕ) → read_up_to 8192 cs room from n ≡ read_block cs room from n
 
 -- Before that, after any pulses, cut in any way: what is said, the output, and the working buffer.
 pub record Tells : Type 0 where

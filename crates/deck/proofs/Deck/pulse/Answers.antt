@@ -49,4 +49,4 @@ settle-requires c = fed-settles c.args.self (closed-open c.args.self (sym c.is_c
 
 -- src/lib.rt:100:5
 pub returns : goal.returns
-returns c = take-one c.args.self c.args.work.now c.args.out.now c.is_closed.ensures c.if-is_closed.false c.has_room.ensures (class_of fixed c.args.pulse) (feed-self-requires c.before.before.before.before.before.before.before.before.before.before.before c.feed-self.lifetimes).1 c.if-not-has_room.false-raw (class-fixed c.args.pulse c.fixed.ensures c.class_of.ensures) (step-settled c.args.self (closed-open c.args.self (sym c.is_closed.ensures ∙ c.if-is_closed.false)).early c.class_of.result c.args.work.now c.args.out.now c.feed-self.ensures c.is_whole.ensures (c.if-not-is_whole.false) c.close.ensures c.settle.ensures)
+returns c = take-one c.args.self c.args.work.now c.args.out.now c.is_closed.ensures c.if-is_closed.false c.has_room.ensures (class_of fixed c.args.pulse) (omega arith) c.if-not-has_room.false-raw (class-fixed c.args.pulse c.fixed.ensures c.class_of.ensures) (step-settled c.args.self (closed-open c.args.self (sym c.is_closed.ensures ∙ c.if-is_closed.false)).early c.class_of.result c.args.work.now c.args.out.now c.feed-self.ensures c.is_whole.ensures (c.if-not-is_whole.false) c.close.ensures c.settle.ensures)

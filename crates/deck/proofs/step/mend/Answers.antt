@@ -11,4 +11,4 @@ returns-in-Two c = mend-two c.args.work.now c.args.place _ c.in-Two.is c.put.ens
 
 -- src/step.rt:161:1
 pub returns-in_default : goal.returns-in_default
-returns-in_default c = mend-none c.args.work.now c.args.place c.args.read c.in_default.keys2
+returns-in_default c = mend-none c.args.work.now c.args.place c.args.read c.in_default.not-Two
