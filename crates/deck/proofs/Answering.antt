@@ -2,11 +2,9 @@
 use Prim.Native.Nat.{ℕ, zero, suc, ◌+◌, ◌-◌, ◌*◌, ◌/◌, ◌%◌, ◌^◌, ◌≤◌, ◌<◌}
 use native.Mathlib.Omega.{arith}
 use mathlib.Core.Path.{◌≡◌, refl, sym, ◌∙◌}
-use mathlib.Core.Logic.{◌⊎◌, inl, inr}
 use mathlib.Core.Bool.{Bool, true, false, cond, not, ◌&&◌, ◌||◌}
 use mathlib.Core.List.{List}
 use borrow.Author.Tests.{eq-eqb, ne_eqb, eqb-true, leb-true, le-ltb, lt-leb, ltb-false, not-false}
-use denote.Enum.Declared.{tag_of}
 use lib.Count.{ones}
 use lib.Dec.{eqb, leb, ltb}
 use lib.ListN.{length, get_or, set}
@@ -34,7 +32,6 @@ use Rattle.deck.specs.Limit.{outside}
 use Rattle.block.specs.declared.PlaceRead.{PlaceRead}
 use Rattle.block.specs.declared.PlaceRead.TheVariants.{One, Two, Neither}
 use Rattle.block.specs.Looking.{place_read}
-use Rattle.block.specs.contracts.PlaceRead.{the_type}
 use Rattle.deck.specs.declared.Deck.{Deck}
 use Rattle.deck.specs.declared.Checks.{Checks}
 use Rattle.deck.specs.Lead.{lead, ends_with, longest_end, seek}

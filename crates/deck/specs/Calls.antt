@@ -1,6 +1,5 @@
 -- The calls of the reader by pulses: the numbers of its state, which states are sound, what each call leaves and says.
 use Rattle.std.specs.Prelude.{ℕ, ◌+◌, Bool, cond, not, ◌&&◌, ◌||◌, List, [], ◌∷◌, eqb, leb, ltb, length}
-use Rattle.refusal.specs.declared.Reason.{Reason}
 use Rattle.refusal.specs.declared.Reason.TheVariants.{WrongSize, NoRoom, NoStart, CutShort, WrongCountdown, LostByte, WrongChecksum}
 use Rattle.refusal.specs.Refusal.{Why, refusal_at, why_of}
 use Rattle.refusal.specs.Outcome.{Outcome, accepted, refuse}

@@ -1,11 +1,4 @@
-use native.Mathlib.Omega.{arith}
-use Rattle.deck.proofs.Answering.{begin-size, begin-room, begin-seeking, inside-le}
-use borrow.Author.Rules.{rules}
-use Rattle.deck.proofs.Deck.begin.Reads as reads
-use Rattle.deck.proofs.Deck.begin.Lts as lts
-use Rattle.deck.proofs.state.not_begun.Reads as not-begun-reads
-use Rattle.deck.proofs.state.seeking.Reads as seeking-reads
-use Rattle.deck.proofs.work.has_room.Reads as has-room-reads
+use Rattle.deck.proofs.Answering.{begin-size, begin-room, begin-seeking}
 use Rattle.deck.proofs.Deck.begin.Goals as goal
 
 -- src/lib.rt:91:13

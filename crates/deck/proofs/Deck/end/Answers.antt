@@ -1,11 +1,5 @@
 use mathlib.Core.Path.{sym, ◌∙◌}
 use Rattle.deck.proofs.Answering.{open-inside, end-closed, end-room, end-ends}
-use borrow.Author.Rules.{rules}
-use Rattle.deck.proofs.Deck.end.Reads as reads
-use Rattle.deck.proofs.Deck.end.Lts as lts
-use Rattle.deck.proofs.state.is_closed.Reads as is-closed-reads
-use Rattle.deck.proofs.step.finish.Reads as finish-reads
-use Rattle.deck.proofs.work.has_room.Reads as has-room-reads
 use Rattle.deck.proofs.Deck.end.Goals as goal
 
 -- src/lib.rt:172:13

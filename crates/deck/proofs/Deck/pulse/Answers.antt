@@ -1,22 +1,10 @@
 use native.Mathlib.Omega.{arith}
-use borrow.Author.Tests.{not-true, not-false}
 use mathlib.Core.Path.{sym, ◌∙◌}
 use Rattle.pulse.specs.Pulse.{class_of, fixed}
 use Rattle.deck.proofs.SoundLaws.{closed-open}
 use Rattle.deck.proofs.Stepping.{ready-roomy, fed-early, fed-settles, step-heard, step-settled}
 use Rattle.deck.proofs.Going.{class-fixed, take-closed, take-many, take_short, take-ready, take-one}
 use Rattle.deck.proofs.Answering.{open-inside}
-use borrow.Author.Rules.{rules}
-use Rattle.deck.proofs.Deck.pulse.Reads as reads
-use Rattle.deck.proofs.Deck.pulse.Lts as lts
-use Rattle.deck.proofs.decode.close.Reads as close-reads
-use Rattle.deck.proofs.state.is_closed.Reads as is-closed-reads
-use Rattle.deck.proofs.step.feed.Reads as feed-reads
-use Rattle.deck.proofs.step.is_whole.Reads as is-whole-reads
-use Rattle.deck.proofs.step.settle.Reads as settle-reads
-use Rattle.deck.proofs.work.has_room.Reads as has-room-reads
-use Rattle.pulse.proofs.Thresholds.fixed.Reads as fixed-Reads
-use Rattle.pulse.proofs.class_of.Reads as class-of-reads
 use Rattle.deck.proofs.Deck.pulse.Goals as goal
 
 -- src/lib.rt:104:13

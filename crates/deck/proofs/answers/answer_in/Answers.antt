@@ -1,8 +1,4 @@
 use Rattle.deck.proofs.Answering.{outcome-accepted, outcome-start, outcome-cut, outcome-countdown, outcome-lost, outcome-sum}
-use borrow.Author.Rules.{rules}
-use Rattle.deck.proofs.answers.answer_in.Reads as reads
-use Rattle.deck.proofs.answers.answer_in.Lts as lts
-use Rattle.refusal.proofs.at.Reads as at_reads
 use Rattle.deck.proofs.answers.answer_in.Goals as goal
 
 -- src/answers.rt:50:9

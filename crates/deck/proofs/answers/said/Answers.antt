@@ -1,11 +1,4 @@
 use Rattle.deck.proofs.Answering.{said-refused, said-inside, said-silent, said-answer}
-use borrow.Author.Rules.{rules}
-use Rattle.deck.proofs.answers.said.Reads as reads
-use Rattle.deck.proofs.answers.said.Lts as lts
-use Rattle.deck.proofs.answers.answer_in.Reads as answer-in-reads
-use Rattle.deck.proofs.answers.reason_of.Reads as reason-of-reads
-use Rattle.deck.proofs.state.is_sound.Reads as is-sound-reads
-use Rattle.refusal.proofs.at.Reads as at_reads
 use Rattle.deck.proofs.answers.said.Goals as goal
 
 -- src/answers.rt:21:9

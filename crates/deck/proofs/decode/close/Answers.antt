@@ -1,10 +1,4 @@
-use Prim.Native.Nat.{◌%◌}
-use native.Mathlib.Omega.{arith}
-use lib.Count.{ones-le}
 use Rattle.deck.proofs.Coding.{closed-by}
-use borrow.Author.Rules.{rules}
-use Rattle.deck.proofs.decode.close.Reads as reads
-use Rattle.deck.proofs.decode.close.Lts as lts
 use Rattle.deck.proofs.decode.close.Goals as goal
 
 -- src/decode.rt:78:9

@@ -1,6 +1,4 @@
 use Rattle.deck.specs.Frame.{earlier}
-use Rattle.deck.proofs.decode.earlier.Reads as reads
-use Rattle.deck.proofs.decode.earlier.Lts as lts
 use Rattle.deck.proofs.decode.earlier.Goals as goal
 
 -- src/decode.rt:84:1

@@ -1,6 +1,4 @@
 use Rattle.deck.proofs.Coding.{sound-marker, sound-bit}
-use Rattle.deck.proofs.decode.is_sound.Reads as reads
-use Rattle.deck.proofs.decode.is_sound.Lts as lts
 use Rattle.deck.proofs.decode.is_sound.Goals as goal
 
 -- src/decode.rt:64:9

@@ -1,5 +1,4 @@
 -- `deck::decode::read_whole` meets its contract, with a good byte and with a bad one.
-use borrow.Author.Rules.{rules}
 use mathlib.Core.Path.{sym, ap, ◌∙◌}
 use Rattle.byte.specs.declared.ByteRead.TheVariants.{Bad}
 use Rattle.byte.proofs.CauseLaws.{value_there, none-there}

@@ -1,11 +1,4 @@
 use Rattle.deck.proofs.Coding.{pulse-first, pulse-second}
-use borrow.Author.Rules.{rules}
-use Rattle.deck.proofs.decode.take_pulse.Reads as reads
-use Rattle.deck.proofs.decode.take_pulse.Lts as lts
-use Rattle.deck.proofs.decode.code.Reads as code_reads
-use Rattle.deck.proofs.decode.earlier.Reads as earlier-reads
-use Rattle.deck.proofs.decode.is_sound.Reads as is-sound-reads
-use Rattle.deck.proofs.decode.with_bit.Reads as with-bit-reads
 use Rattle.deck.proofs.decode.take_pulse.Goals as goal
 
 -- src/decode.rt:43:9

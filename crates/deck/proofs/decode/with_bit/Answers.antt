@@ -1,8 +1,5 @@
 use Rattle.deck.specs.Frame.{with_bit}
 use native.Mathlib.Nat.{add-zero}
-use borrow.Author.Rules.{rules}
-use Rattle.deck.proofs.decode.with_bit.Reads as reads
-use Rattle.deck.proofs.decode.with_bit.Lts as lts
 use Rattle.deck.proofs.decode.with_bit.Goals as goal
 
 -- src/decode.rt:53:1

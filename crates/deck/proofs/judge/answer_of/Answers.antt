@@ -1,9 +1,6 @@
 use native.Mathlib.Omega.{arith}
 use borrow.Author.Tests.{eq-eqb, ne_eqb, lt-ltb, le-ltb, le-leb, lt-leb}
 use Rattle.deck.specs.Judge.{answer_by}
-use borrow.Author.Rules.{rules}
-use Rattle.deck.proofs.judge.answer_of.Reads as reads
-use Rattle.deck.proofs.judge.answer_of.Lts as lts
 use Rattle.deck.proofs.judge.answer_of.Goals as goal
 
 -- src/judge.rt:144:9

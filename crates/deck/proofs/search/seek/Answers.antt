@@ -1,7 +1,4 @@
 use Rattle.deck.proofs.Answering.{short-far, seek-short, seek-longer, seek-back, seek-medium, seek-no-medium, seek-long, seek-no-long, seek-noise}
-use borrow.Author.Rules.{rules}
-use Rattle.deck.proofs.search.seek.Reads as reads
-use Rattle.deck.proofs.search.seek.Lts as lts
 use Rattle.deck.proofs.search.seek.Goals as goal
 
 -- src/search.rt:29:17

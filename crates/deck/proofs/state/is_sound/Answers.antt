@@ -1,8 +1,4 @@
-use native.Mathlib.Omega.{arith}
-use Rattle.deck.proofs.Answering.{unsound, inside, sound-seeking, sound-between, sound-told, sound-frame}
-use borrow.Author.Rules.{rules}
-use Rattle.deck.proofs.state.is_sound.Reads as reads
-use Rattle.deck.proofs.state.is_sound.Lts as lts
+use Rattle.deck.proofs.Answering.{unsound, sound-seeking, sound-between, sound-told, sound-frame}
 use Rattle.deck.proofs.state.is_sound.Goals as goal
 
 -- src/state.rt:170:9

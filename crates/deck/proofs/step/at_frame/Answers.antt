@@ -1,7 +1,5 @@
 use mathlib.Core.Path.{refl}
 use Rattle.deck.specs.private.Ready.{is_at_frame}
-use Rattle.deck.proofs.step.at_frame.Reads as reads
-use Rattle.deck.proofs.step.at_frame.Lts as lts
 use Rattle.deck.proofs.step.at_frame.Goals as goal
 
 -- src/step.rt:171:1

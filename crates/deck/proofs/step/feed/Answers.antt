@@ -1,15 +1,6 @@
 use native.Mathlib.Omega.{arith}
 use Rattle.deck.proofs.Stepping.{phase-last, seeking-small, between-small, copy-small, fed-seeking, fed-between, fed-one, fed-two}
 use Rattle.deck.proofs.SoundLaws.{closed-open}
-use borrow.Author.Rules.{rules}
-use Rattle.deck.proofs.step.feed.Reads as reads
-use Rattle.deck.proofs.step.feed.Lts as lts
-use Rattle.deck.proofs.decode.take_pulse.Reads as take-pulse-reads
-use Rattle.deck.proofs.search.seek.Reads as seek-reads
-use Rattle.deck.proofs.state.between.Reads as between-reads
-use Rattle.deck.proofs.state.in_one.Reads as in-one-reads
-use Rattle.deck.proofs.state.in_two.Reads as in-two-reads
-use Rattle.deck.proofs.state.seeking.Reads as seeking-reads
 use Rattle.deck.proofs.step.feed.Goals as goal
 
 -- src/step.rt:56:41

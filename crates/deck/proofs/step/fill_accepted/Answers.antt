@@ -1,8 +1,4 @@
 use Rattle.deck.proofs.Answering.{filled-yes, filled-no}
-use borrow.Author.Rules.{rules}
-use Rattle.deck.proofs.step.fill_accepted.Reads as reads
-use Rattle.deck.proofs.step.fill_accepted.Lts as lts
-use Rattle.deck.proofs.work.fill.Reads as fill-reads
 use Rattle.deck.proofs.step.fill_accepted.Goals as goal
 
 -- src/step.rt:151:1

@@ -1,8 +1,4 @@
 use Rattle.deck.proofs.Answering.{finish-seeking, finish-cut}
-use borrow.Author.Rules.{rules}
-use Rattle.deck.proofs.step.finish.Reads as reads
-use Rattle.deck.proofs.step.finish.Lts as lts
-use Rattle.deck.proofs.state.told.Reads as told-reads
 use Rattle.deck.proofs.step.finish.Goals as goal
 
 -- src/step.rt:192:9

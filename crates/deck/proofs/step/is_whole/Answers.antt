@@ -1,6 +1,4 @@
 use Rattle.deck.proofs.Stepping.{phase-seeking, phase-between, whole_copy}
-use Rattle.deck.proofs.step.is_whole.Reads as reads
-use Rattle.deck.proofs.step.is_whole.Lts as lts
 use Rattle.deck.proofs.step.is_whole.Goals as goal
 
 -- src/step.rt:76:9

@@ -1,19 +1,5 @@
 use native.Mathlib.Omega.{arith}
 use Rattle.deck.proofs.Stepping.{judged-countdown, judged-next, judged-last}
-use borrow.Author.Rules.{rules}
-use Rattle.deck.proofs.step.judge_place.Reads as reads
-use Rattle.deck.proofs.step.judge_place.Lts as lts
-use Rattle.deck.proofs.decode.fresh.Reads as fresh-reads
-use Rattle.deck.proofs.judge.answer_of.Reads as answer-of-reads
-use Rattle.deck.proofs.judge.check_countdown.Reads as check-countdown-reads
-use Rattle.deck.proofs.judge.check_value.Reads as check-value-reads
-use Rattle.deck.proofs.judge.place_of.Reads as place-of-reads
-use Rattle.deck.proofs.judge.value_of.Reads as value-of-reads
-use Rattle.deck.proofs.state.in_two.Reads as in-two-reads
-use Rattle.deck.proofs.state.told.Reads as told-reads
-use Rattle.deck.proofs.step.fill_accepted.Reads as fill-accepted-reads
-use Rattle.deck.proofs.step.mend.Reads as mend-reads
-use Rattle.deck.proofs.work.get.Reads as get-reads
 use Rattle.deck.proofs.step.judge_place.Goals as goal
 
 -- src/step.rt:137:9

@@ -1,8 +1,4 @@
 use Rattle.deck.proofs.Answering.{mend-two, mend-none}
-use borrow.Author.Rules.{rules}
-use Rattle.deck.proofs.step.mend.Reads as reads
-use Rattle.deck.proofs.step.mend.Lts as lts
-use Rattle.deck.proofs.work.put.Reads as put_reads
 use Rattle.deck.proofs.step.mend.Goals as goal
 
 -- src/step.rt:161:1

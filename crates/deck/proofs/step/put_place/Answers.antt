@@ -1,12 +1,5 @@
 use native.Mathlib.Omega.{arith}
 use Rattle.deck.proofs.Stepping.{placed-next, placed-last}
-use borrow.Author.Rules.{rules}
-use Rattle.deck.proofs.step.put_place.Reads as reads
-use Rattle.deck.proofs.step.put_place.Lts as lts
-use Rattle.deck.proofs.decode.fresh.Reads as fresh-reads
-use Rattle.deck.proofs.state.between.Reads as between-reads
-use Rattle.deck.proofs.state.in_one.Reads as in-one-reads
-use Rattle.deck.proofs.work.put.Reads as put_reads
 use Rattle.deck.proofs.step.put_place.Goals as goal
 
 -- src/step.rt:115:9

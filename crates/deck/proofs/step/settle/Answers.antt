@@ -1,16 +1,5 @@
 use mathlib.Core.Path.{refl}
-use native.Mathlib.Omega.{arith}
 use Rattle.deck.proofs.Stepping.{phase-last, settled-seeking, settled-between, settled-one, settled-two}
-use borrow.Author.Rules.{rules}
-use Rattle.deck.proofs.step.settle.Reads as reads
-use Rattle.deck.proofs.step.settle.Lts as lts
-use Rattle.deck.proofs.decode.fresh.Reads as fresh-reads
-use Rattle.deck.proofs.judge.none.Reads as none_reads
-use Rattle.deck.proofs.state.in_one.Reads as in-one-reads
-use Rattle.deck.proofs.state.in_two.Reads as in-two-reads
-use Rattle.deck.proofs.step.judge_place.Reads as judge-place-reads
-use Rattle.deck.proofs.step.put_place.Reads as put-place-reads
-use Rattle.deck.proofs.work.put.Reads as put_reads
 use Rattle.deck.proofs.step.settle.Goals as goal
 
 -- src/step.rt:97:9

@@ -1,8 +1,5 @@
-use Prim.Native.Nat.{◌-◌, ◌≤◌}
 use native.Mathlib.Omega.{arith}
-use Rattle.deck.proofs.Answering.{PayloadPut, fill-begun, fill-next, fill_done}
-use Rattle.deck.proofs.work.fill.Reads as reads
-use Rattle.deck.proofs.work.fill.Lts as lts
+use Rattle.deck.proofs.Answering.{fill-next, fill_done}
 use Rattle.deck.proofs.work.fill.Goals as goal
 
 -- src/work.rt:52:5

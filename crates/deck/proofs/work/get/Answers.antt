@@ -1,7 +1,4 @@
 use Rattle.deck.proofs.Coding.{get-good, get-bad}
-use borrow.Author.Rules.{rules}
-use Rattle.deck.proofs.work.get.Reads as reads
-use Rattle.deck.proofs.work.get.Lts as lts
 use Rattle.deck.proofs.work.get.Goals as goal
 
 -- src/work.rt:41:9

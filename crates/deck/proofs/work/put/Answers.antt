@@ -1,9 +1,4 @@
-use native.Mathlib.Omega.{arith}
-use Rattle.deck.specs.Work.{cause_byte, put_byte}
-use Prim.Native.Nat.{◌<◌}
-use borrow.Author.Rules.{rules}
-use Rattle.deck.proofs.work.put.Reads as reads
-use Rattle.deck.proofs.work.put.Lts as lts
+use Rattle.deck.specs.Work.{put_byte}
 use Rattle.deck.proofs.work.put.Goals as goal
 
 -- src/work.rt:18:1
