@@ -228,11 +228,11 @@ module _ (n work out : ℕ) {d : Deck} where
   unfolding begin_deck
   begin-size e q = rw (e, q)
 
-  pub begin-room : outside 65534 n ≡ false → {room : Bool} → room ≡ fits n work out → not room ≡ true → d ≡ not_begun 2 → d ≡ begin_deck n work out
+  pub begin-room : outside 65534 n ≡ false → {room : Bool} → room ≡ fits n work out → room ≡ false → d ≡ not_begun 2 → d ≡ begin_deck n work out
   unfolding begin_deck
   begin-room e r t q = rw (e, ← r, t, q)
 
-  pub begin-seeking : outside 65534 n ≡ false → {room : Bool} → room ≡ fits n work out → not room ≡ false → d ≡ deck_of n 0 (Seeking 0) → d ≡ begin_deck n work out
+  pub begin-seeking : outside 65534 n ≡ false → {room : Bool} → room ≡ fits n work out → room ≡ true → d ≡ deck_of n 0 (Seeking 0) → d ≡ begin_deck n work out
   unfolding begin_deck
   begin-seeking e r t q = rw (e, ← r, t, q)
 
@@ -268,11 +268,11 @@ module _ (d : Deck) (work out : List ℕ) where
   end-closed e t = rw (← e, t)
 
   module _ {t : Bool} (e : t ≡ is_closed d) (h : t ≡ false) {room : Bool} (f : room ≡ fits d.n (length work) (length out)) where
-    pub end-room : not room ≡ true → lent (deck_refusing 2 d) work out ≡ take_end (lent d work out)
+    pub end-room : room ≡ false → lent (deck_refusing 2 d) work out ≡ take_end (lent d work out)
     unfolding take_end if_lent
     end-room g = rw (← e, h, ← f, g)
 
-    pub end-ends : not room ≡ false → {r : Deck} → r ≡ deck_of d.n d.taken (ended_in (phase_of d)) → lent r work out ≡ take_end (lent d work out)
+    pub end-ends : room ≡ true → {r : Deck} → r ≡ deck_of d.n d.taken (ended_in (phase_of d)) → lent r work out ≡ take_end (lent d work out)
     unfolding take_end if_lent
     end-ends g q = rw (← e, h, ← f, g, q)
 

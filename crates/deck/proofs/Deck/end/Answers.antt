@@ -12,8 +12,8 @@ has_room-requires c = open-inside c.args.self (sym c.is_closed.ensures ∙ c.if-
 
 -- src/lib.rt:176:13
 pub returns-then-not-has_room : goal.returns-then-not-has_room
-returns-then-not-has_room c = end-room c.args.self c.args.work.now c.args.out.now c.is_closed.ensures c.if-is_closed.false c.has_room.ensures c.if-not-has_room.true-raw
+returns-then-not-has_room c = end-room c.args.self c.args.work.now c.args.out.now c.is_closed.ensures c.if-is_closed.false c.has_room.ensures c.if-not-has_room.true
 
 -- src/lib.rt:168:5
 pub returns : goal.returns
-returns c = end-ends c.args.self c.args.work.now c.args.out.now c.is_closed.ensures c.if-is_closed.false c.has_room.ensures c.if-not-has_room.false-raw c.finish.ensures
+returns c = end-ends c.args.self c.args.work.now c.args.out.now c.is_closed.ensures c.if-is_closed.false c.has_room.ensures c.if-not-has_room.false c.finish.ensures

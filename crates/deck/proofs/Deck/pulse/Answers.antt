@@ -21,7 +21,7 @@ has_room-requires c = open-inside c.args.self (sym c.is_closed.ensures ∙ c.if-
 
 -- src/lib.rt:112:13
 pub returns-then-not-has_room : goal.returns-then-not-has_room
-returns-then-not-has_room c = take_short c.args.self c.args.work.now c.args.out.now c.is_closed.ensures c.if-is_closed.false c.has_room.ensures _ (omega arith) c.if-not-has_room.true-raw
+returns-then-not-has_room c = take_short c.args.self c.args.work.now c.args.out.now c.is_closed.ensures c.if-is_closed.false c.has_room.ensures _ (omega arith) c.if-not-has_room.true
 
 -- src/lib.rt:115:13
 pub is_whole-requires : goal.is_whole-requires
@@ -29,12 +29,12 @@ is_whole-requires c = fed-early c.args.self (closed-open c.args.self (sym c.is_c
 
 -- src/lib.rt:116:13
 pub returns-then-not-is_whole : goal.returns-then-not-is_whole
-returns-then-not-is_whole c = take-one c.args.self c.args.work.now c.args.out.now c.is_closed.ensures c.if-is_closed.false c.has_room.ensures (class_of fixed c.args.pulse) (omega arith) c.if-not-has_room.false-raw (class-fixed c.args.pulse c.fixed.ensures c.class_of.ensures) (step-heard c.args.self (closed-open c.args.self (sym c.is_closed.ensures ∙ c.if-is_closed.false)).early c.class_of.result c.args.work.now c.args.out.now c.feed-self.ensures c.is_whole.ensures (c.if-not-is_whole.true))
+returns-then-not-is_whole c = take-one c.args.self c.args.work.now c.args.out.now c.is_closed.ensures c.if-is_closed.false c.has_room.ensures (class_of fixed c.args.pulse) (omega arith) c.if-not-has_room.false (class-fixed c.args.pulse c.fixed.ensures c.class_of.ensures) (step-heard c.args.self (closed-open c.args.self (sym c.is_closed.ensures ∙ c.if-is_closed.false)).early c.class_of.result c.args.work.now c.args.out.now c.feed-self.ensures c.is_whole.ensures (c.if-not-is_whole.true))
 
 -- src/lib.rt:118:9
 pub settle-requires : goal.settle-requires
-settle-requires c = fed-settles c.args.self (closed-open c.args.self (sym c.is_closed.ensures ∙ c.if-is_closed.false)) c.class_of.result _ _ (ready-roomy (take-ready c.args.self c.args.work.now c.args.out.now c.is_closed.ensures c.if-is_closed.false c.has_room.ensures (omega arith) c.if-not-has_room.false-raw)) c.feed-self.ensures c.is_whole.ensures (c.if-not-is_whole.false) c.close.ensures
+settle-requires c = fed-settles c.args.self (closed-open c.args.self (sym c.is_closed.ensures ∙ c.if-is_closed.false)) c.class_of.result _ _ (ready-roomy (take-ready c.args.self c.args.work.now c.args.out.now c.is_closed.ensures c.if-is_closed.false c.has_room.ensures (omega arith) c.if-not-has_room.false)) c.feed-self.ensures c.is_whole.ensures (c.if-not-is_whole.false) c.close.ensures
 
 -- src/lib.rt:100:5
 pub returns : goal.returns
-returns c = take-one c.args.self c.args.work.now c.args.out.now c.is_closed.ensures c.if-is_closed.false c.has_room.ensures (class_of fixed c.args.pulse) (omega arith) c.if-not-has_room.false-raw (class-fixed c.args.pulse c.fixed.ensures c.class_of.ensures) (step-settled c.args.self (closed-open c.args.self (sym c.is_closed.ensures ∙ c.if-is_closed.false)).early c.class_of.result c.args.work.now c.args.out.now c.feed-self.ensures c.is_whole.ensures (c.if-not-is_whole.false) c.close.ensures c.settle.ensures)
+returns c = take-one c.args.self c.args.work.now c.args.out.now c.is_closed.ensures c.if-is_closed.false c.has_room.ensures (class_of fixed c.args.pulse) (omega arith) c.if-not-has_room.false (class-fixed c.args.pulse c.fixed.ensures c.class_of.ensures) (step-settled c.args.self (closed-open c.args.self (sym c.is_closed.ensures ∙ c.if-is_closed.false)).early c.class_of.result c.args.work.now c.args.out.now c.feed-self.ensures c.is_whole.ensures (c.if-not-is_whole.false) c.close.ensures c.settle.ensures)

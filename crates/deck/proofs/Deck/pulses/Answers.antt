@@ -20,15 +20,15 @@ has_room-requires c = open-inside c.args.self (sym c.is_closed.ensures ∙ c.if-
 
 -- src/lib.rt:136:13
 pub returns-then-not-has_room : goal.returns-then-not-has_room
-returns-then-not-has_room c = take_short c.args.self c.args.work.now c.args.out.now c.is_closed.ensures c.if-is_closed.false c.has_room.ensures _ (strip-few _ c.args.pulses.now (omega arith) c.if-self-pulses.false) c.if-not-has_room.true-raw
+returns-then-not-has_room c = take_short c.args.self c.args.work.now c.args.out.now c.is_closed.ensures c.if-is_closed.false c.has_room.ensures _ (strip-few _ c.args.pulses.now (omega arith) c.if-self-pulses.false) c.if-not-has_room.true
 
 -- src/lib.rt:140:9
 pub loop-i-init : goal.loop-i-init
-loop-i-init c = running-begun c.args.pulses.now c.args.self _ _ c.is_closed.ensures c.if-is_closed.false c.has_room.ensures c.if-not-has_room.false-raw (omega arith)
+loop-i-init c = running-begun c.args.pulses.now c.args.self _ _ c.is_closed.ensures c.if-is_closed.false c.has_room.ensures c.if-not-has_room.false (omega arith)
 
 -- src/lib.rt:142:17
 pub returns-then-self-eq-ANSWERED : goal.returns-then-self-eq-ANSWERED
-returns-then-self-eq-ANSWERED c = take_steps c.args.self c.args.work.now c.args.out.now c.is_closed.ensures c.if-is_closed.false c.has_room.ensures _ (strip-few _ c.args.pulses.now (omega arith) c.if-self-pulses.false) c.if-not-has_room.false-raw (running-told _ _ _ _ _ _ _ _ c.loop-i.invariant c.if-self-eq-ANSWERED.true)
+returns-then-self-eq-ANSWERED c = take_steps c.args.self c.args.work.now c.args.out.now c.is_closed.ensures c.if-is_closed.false c.has_room.ensures _ (strip-few _ c.args.pulses.now (omega arith) c.if-self-pulses.false) c.if-not-has_room.false (running-told _ _ _ _ _ _ _ _ c.loop-i.invariant c.if-self-eq-ANSWERED.true)
 
 -- src/lib.rt:146:17
 pub settle-self-requires : goal.settle-self-requires
@@ -60,4 +60,4 @@ loop-i-preserved c = running-one _ _ _ _ _ _ _ _ c.loop-i.invariant c.class_of.r
 
 -- src/lib.rt:124:5
 pub returns : goal.returns
-returns c = take_steps c.args.self c.args.work.now c.args.out.now c.is_closed.ensures c.if-is_closed.false c.has_room.ensures _ (strip-few _ c.args.pulses.now (omega arith) c.if-self-pulses.false) c.if-not-has_room.false-raw (running-done _ _ _ _ _ _ _ _ c.loop-i.invariant (λ z. omega (arith, c.loop-i-test)))
+returns c = take_steps c.args.self c.args.work.now c.args.out.now c.is_closed.ensures c.if-is_closed.false c.has_room.ensures _ (strip-few _ c.args.pulses.now (omega arith) c.if-self-pulses.false) c.if-not-has_room.false (running-done _ _ _ _ _ _ _ _ c.loop-i.invariant (λ z. omega (arith, c.loop-i-test)))
