@@ -4,9 +4,9 @@ use native.Mathlib.Decide.{dec_lt}
 use native.Mathlib.Omega.{arith}
 use mathlib.Core.Path.{◌≡◌, refl, sym, ap, ◌∙◌}
 use mathlib.Core.Logic.{inl, inr}
-use mathlib.Core.Bool.{Bool, true, false, not, ◌&&◌}
+use mathlib.Core.Bool.{Bool, true, false, ◌&&◌}
 use mathlib.Core.List.{List, [], ◌∷◌, ◌++◌}
-use borrow.Author.Tests.{ne_eqb, leb-true, not-true, not-false}
+use borrow.Author.Tests.{ne_eqb, leb-true}
 use lib.Dec.{leb, lit<}
 use lib.ListN.{length, drop, get_or, length-drop, length-take, length-map, get_or-map, take-append-drop}
 use lib.Seq.{drop-cons, drop-drop, drop-length}
