@@ -36,10 +36,10 @@ module _ (file : List ℕ) where
     -- ---- Reserved bytes and count
 
     module _ {r : Bool} (s : Same r (part file 13 3) (0 ∷ 0 ∷ 0 ∷ [])) where
-      pub wrong_count-reserved : not r ≡ true → true ≡ wrong_count file
+      pub wrong_count-reserved : r ≡ false → true ≡ wrong_count file
       wrong_count-reserved e = rw (← (equal_is r (part file 13 3) (0 ∷ 0 ∷ 0 ∷ []) s), e)
 
-      pub wrong_count-number : {count : ℕ} → not r ≡ false → count ≡ from_low (take 4 (part file 16 4)) → not (eqb count (length file - 20)) ≡ wrong_count file
+      pub wrong_count-number : {count : ℕ} → r ≡ true → count ≡ from_low (take 4 (part file 16 4)) → not (eqb count (length file - 20)) ≡ wrong_count file
       wrong_count-number e l = rw (← (equal_is r (part file 13 3) (0 ∷ 0 ∷ 0 ∷ []) s), e, l, take-take 4 4 (drop 16 file) (omega arith), length-drop)
 
   -- ---- The header

@@ -9,8 +9,8 @@ use mathlib.Core.List.{List, [], ◌∷◌, ◌++◌}
 use mathlib.Core.Option.{Option, none, some}
 use borrow.Author.Tests.{eq-eqb, ne_eqb, lt-ltb, le-ltb}
 use lib.Dec.{eqb}
-use lib.ListN.{length, take, drop, get_or, set, length-append}
-use lib.Seq.{sets, take-length}
+use lib.ListN.{length, drop, get_or, set, length-append}
+use lib.Seq.{sets}
 use Rattle.lists.specs.Text.{ascii, low_first}
 use Rattle.lists.proofs.BufferLaws.{put-room, put_front, sets-append}
 use Rattle.lists.proofs.LoopLaws.{first_left, first-begun, first-passed, first-here, first-over, Putting, put_next, put-done}
@@ -182,15 +182,16 @@ module _ (out : List ℕ) (v : ℕ) (bytes : List ℕ) {n : ℕ} (e : n ≡ leng
   unfolding put_file
   put_file-no_room h = written-refused (put_file (length out) v bytes) out (rw (if_room-no_room (length out) (length (tap_file v bytes)) _ (rw (length-tap_file v bytes, ← e) h)))
 
-  pub put_file-accepted : {header one two : List ℕ} → 20 + n ≤ length out → header ≡ tap_header v n → one ≡ take (length header) header ++ drop (length header) out → two ≡ sets one 20 bytes
+  pub put_file-accepted : {header front two : List ℕ} → 20 + n ≤ length out → header ≡ tap_header v n → front ≡ header → two ≡ sets (front ++ drop 20 out) 20 bytes
       → Written (put_file (length out) v bytes) out (Count (20 + n)) two
   unfolding put_file
-  put_file-accepted {header} {one} {two} h p q s =
+  put_file-accepted {header} {front} {two} h p q s =
       let l = length-tap_file v bytes in
       let k = length-tap_header v (length bytes) in
-      let g : header ≡ tap_header v (length bytes) = p ∙ ap (tap_header v) e in
-      let o : one ≡ sets out 0 (tap_header v (length bytes)) =
-      rw (q, g, take-length, put-room out 0 (tap_header v (length bytes)) (omega arith), put_front out (tap_header v (length bytes)) (omega arith)) in
+      let g : front ≡ tap_header v (length bytes) = q ∙ p ∙ ap (tap_header v) e in
+      let o : front ++ drop 20 out ≡ sets out 0 (tap_header v (length bytes)) =
+      ap (λ f. f ++ drop 20 out) g ∙ ap (λ m. tap_header v (length bytes) ++ drop m out) (sym k)
+      ∙ rw (put-room out 0 (tap_header v (length bytes)) (omega arith), put_front out (tap_header v (length bytes)) (omega arith)) in
       let w : two ≡ sets out 0 (tap_file v bytes) = s ∙ ap (λ b. sets b 20 bytes) o ∙ sym (sets-append (tap_header v (length bytes)) bytes out 0 ∙ rw (zero-add, k)) in
       written-accepted (put_file (length out) v bytes) out (rw (if_room-room (length out) (length (tap_file v bytes)) _ (omega arith))) (l ∙ rw e) (w ∙ put-room out 0 (tap_file v bytes) (omega arith))
 

@@ -41,8 +41,8 @@ pub fn long_cycles(bytes: &[u8], i: usize) -> Cycles
 
 // The units of a duration that one byte counts; 0 where it has no such form.
 pub fn byte_units(duration: Cycles) -> Units
-    ensures result_value { result.0 ≡ byte_units duration.0 }
-    ensures result_bound { result.0 < 256 }
+    ensures value { result.0 ≡ byte_units duration.0 }
+    ensures fits { result.0 < 256 }
 {
     let InUnits::Whole(units) = pulse::units_of(duration) else {
         return Units(0);

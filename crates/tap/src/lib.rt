@@ -5,6 +5,7 @@
 //
 // `header` has the 20 bytes in front, `forms` what stands for a duration, `reader` and `writer` the data; `groups` is there for speed.
 #![tactic(auto)]
+
 mod forms;
 mod groups;
 mod header;

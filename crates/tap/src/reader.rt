@@ -63,10 +63,10 @@ struct FormPlace {
 }
 
 fn count_group(bytes: &[u8], start: usize, count: usize) -> FormPlace
-    requires start_in_bounds { start < length bytes.now }
+    requires in_bounds { start < length bytes.now }
     requires counted { Counted bytes.now start count }
-    ensures counted_2 { Counted bytes.now result.place result.count }
-    ensures counted_to { CountedTo bytes.now start result.place }
+    ensures counted { Counted bytes.now result.place result.count }
+    ensures place { CountedTo bytes.now start result.place }
 {
     let end = groups::group_end(start, bytes.len());
     if groups::no_zeros(&bytes[start..end]) {
@@ -84,10 +84,10 @@ fn count_group(bytes: &[u8], start: usize, count: usize) -> FormPlace
 // Counts a group with zero bytes, after which a long form has room. Where no zero byte stands in the three bytes after another, each begins
 // a long form, and for each there are three durations fewer than bytes.
 fn count_mixed(bytes: &[u8], start: usize, end: usize, count: usize) -> FormPlace
-    requires start_bound { (start + 4 ≤ end) × (end ≤ start + 128) × (end + 4 ≤ length bytes.now) }
+    requires group { (start + 4 ≤ end) × (end ≤ start + 128) × (end + 4 ≤ length bytes.now) }
     requires counted { Counted bytes.now start count }
-    ensures counted_2 { Counted bytes.now result.place result.count }
-    ensures counted_to { CountedTo bytes.now start result.place }
+    ensures counted { Counted bytes.now result.place result.count }
+    ensures place { CountedTo bytes.now start result.place }
 {
     let zeros = groups::zeros_in(bytes, start, end);
     if zeros.apart {
@@ -119,10 +119,10 @@ fn form_end(bytes: &[u8], end: usize) -> usize
 
 // Counts form by form, to the end of a group or a long form that is cut short.
 fn count_each(bytes: &[u8], start: usize, end: usize, before: usize) -> FormPlace
-    requires start_lt_end { (start < end) × (end ≤ length bytes.now) }
+    requires group { (start < end) × (end ≤ length bytes.now) }
     requires counted { Counted bytes.now start before }
-    ensures counted_2 { Counted bytes.now result.place result.count }
-    ensures counted_to { CountedTo bytes.now start result.place }
+    ensures counted { Counted bytes.now result.place result.count }
+    ensures place { CountedTo bytes.now start result.place }
 {
     let mut i = start;
     let mut count = before;
@@ -167,10 +167,10 @@ fn fill_forms(bytes: &[u8], out: &mut [u32])
 }
 
 fn fill_group(bytes: &[u8], start: usize, out: &mut [u32], k: usize) -> FormPlace
-    requires start_in_bounds { start < length bytes.now }
+    requires in_bounds { start < length bytes.now }
     requires fillable { Fillable bytes.now start out.old k }
-    ensures start_lt_place { start < result.place }
-    ensures filled_to { FilledTo bytes.now start out.old k result.place out.new result.count }
+    ensures further { start < result.place }
+    ensures filled { FilledTo bytes.now start out.old k result.place out.new result.count }
 {
     let end = groups::group_end(start, bytes.len());
     let group = &bytes[start..end];
@@ -186,10 +186,10 @@ fn fill_group(bytes: &[u8], start: usize, out: &mut [u32], k: usize) -> FormPlac
 
 // Fills in durations form by form, to the end of a group.
 fn fill_each(bytes: &[u8], start: usize, end: usize, out: &mut [u32], before: usize) -> FormPlace
-    requires start_lt_end { (start < end) × (end ≤ length bytes.now) }
+    requires group { (start < end) × (end ≤ length bytes.now) }
     requires fillable { Fillable bytes.now start out.old before }
-    ensures start_lt_place { start < result.place }
-    ensures filled_to { FilledTo bytes.now start out.old before result.place out.new result.count }
+    ensures further { start < result.place }
+    ensures filled { FilledTo bytes.now start out.old before result.place out.new result.count }
 {
     let mut i = start;
     let mut k = before;

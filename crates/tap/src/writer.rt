@@ -36,8 +36,8 @@ struct Widths {
 
 fn sum_widths(version: u8, durations: &[u32]) -> Widths
     requires { length durations.now ≤ 1048576 }
-    ensures bytes_value { result.bytes ≡ length (tap_data version durations.now) }
-    ensures missing_value { result.missing ≡ is_missing version durations.now }
+    ensures bytes { result.bytes ≡ length (tap_data version durations.now) }
+    ensures missing { result.missing ≡ is_missing version durations.now }
 {
     let mut i: usize = 0;
     let mut bytes: u32 = 0;
@@ -66,8 +66,8 @@ fn first_without(version: u8, durations: &[u32]) -> usize
 
 // Writes a file of n data bytes, at most four for each duration.
 pub fn put_file(version: u8, durations: &[u32], n: usize, out: &mut [u8]) -> Put
-    requires n_value { n ≡ length (tap_data version durations.now) }
-    requires n_bound { n ≤ 4194304 }
+    requires count { n ≡ length (tap_data version durations.now) }
+    requires fits { n ≤ 4194304 }
     ensures { Written (put_file (length out.old) version (tap_data version durations.now)) out.old result out.new }
 {
     let count = TAP_HEADER_BYTES + n;
@@ -98,7 +98,7 @@ fn put_data(version: u8, durations: &[u32], out: &mut [u8])
 fn put_group(version: u8, durations: &[u32], out: &mut [u8], at: usize) -> usize
     requires { at + length (tap_data version durations.now) ≤ length out.old }
     ensures value { result ≡ at + length (tap_data version durations.now) }
-    ensures out_after { out.new ≡ sets out.old at (tap_data version durations.now) }
+    ensures put { out.new ≡ sets out.old at (tap_data version durations.now) }
 {
     if all_bytes(durations) {
         put_units(durations, out, at);
@@ -138,7 +138,7 @@ fn put_units(durations: &[u32], out: &mut [u8], at: usize)
 fn put_each(version: u8, durations: &[u32], out: &mut [u8], start: usize) -> usize
     requires { start + length (tap_data version durations.now) ≤ length out.old }
     ensures value { result ≡ start + length (tap_data version durations.now) }
-    ensures out_after { out.new ≡ sets out.old start (tap_data version durations.now) }
+    ensures put { out.new ≡ sets out.old start (tap_data version durations.now) }
 {
     let mut i: usize = 0;
     let mut at = start;
@@ -154,7 +154,7 @@ fn put_each(version: u8, durations: &[u32], out: &mut [u8], start: usize) -> usi
 fn put_form(version: u8, duration: Cycles, out: &mut [u8], at: usize) -> usize
     requires { at + length (form_of version duration.0) ≤ length out.old }
     ensures value { result ≡ at + length (form_of version duration.0) }
-    ensures out_after { out.new ≡ sets out.old at (form_of version duration.0) }
+    ensures put { out.new ≡ sets out.old at (form_of version duration.0) }
 {
     let width = forms::form_width(version, duration) as usize;
     if width == 1 {

@@ -1,5 +1,4 @@
 -- `tap::read_tap` meets its contract: what the header comes to, and then the data.
-use borrow.Author.Rules.{rules}
 use Rattle.tap.proofs.ReaderLaws.{read_tap-wrong_header, tap_version-long, read_tap-sound_header}
 use Rattle.tap.proofs.read_tap.Goals as goal
 
@@ -16,4 +15,4 @@ returns-in-Version c =
     read_tap-sound_header c.args.file.now c.args.out.now c.tap_version.ensures c.in-Version.is c.read_durations.result c.read_durations.ensures
 
 pub slice_bounds-read_durations-start : goal.slice_bounds-read_durations-start
-slice_bounds-read_durations-start c = ?
+slice_bounds-read_durations-start c = tap_version-long c.args.file.now c.args.out.now c.tap_version.ensures c.in-Version.is

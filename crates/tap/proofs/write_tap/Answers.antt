@@ -1,6 +1,5 @@
 -- `tap::write_tap` meets its contract: refusals 1, 11 and 13, and then what is written.
 use native.Mathlib.Omega.{arith}
-use borrow.Author.Rules.{rules}
 use Rattle.tap.proofs.FormLaws.{width-tap_data}
 use Rattle.tap.proofs.WriterLaws.{write_tap-wrong_size, write_tap-wrong_tap_version, write_tap-no_tap_form, length-data_of, write_tap-put_file}
 use Rattle.tap.proofs.write_tap.Goals as goal
@@ -17,7 +16,7 @@ pub put_file-requires : goal.put_file-requires
 put_file-requires c =
     let count = length-data_of c.args.out.now c.args.version c.args.durations.now c.if-durations-gt-MOST_DURATIONS.false c.if-version-gt-LAST_VERSION.false c.measure_forms.ensures c.in-Count.is in
     let width = width-tap_data c.args.version c.args.durations.now in
-    record { n_value = count; n_bound = omega arith }
+    record { count = count; fits = omega arith }
 
 pub returns-in-Refused : goal.returns-in-Refused
 returns-in-Refused c =

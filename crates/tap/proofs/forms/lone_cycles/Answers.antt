@@ -1,6 +1,5 @@
 -- `tap::forms::lone_cycles` meets its contract: code and definition go by the same test.
 use mathlib.Core.Path.{sym, ◌∙◌}
-use borrow.Author.Rules.{rules}
 use Rattle.tap.proofs.DataLaws.{lone_cycles-zero, lone_cycles-units}
 use Rattle.tap.proofs.forms.lone_cycles.Goals as goal
 

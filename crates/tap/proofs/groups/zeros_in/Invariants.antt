@@ -1,14 +1,8 @@
 -- `tap::groups::zeros_in` meets its contract. The invariant: where no zero byte was found in the three bytes after another, the forms up to the place are known.
 use Prim.Native.Nat.{◌-◌, ◌≤◌}
-use native.Mathlib.Omega.{arith}
 use mathlib.Core.Path.{◌≡◌}
 use mathlib.Core.Bool.{true}
-use borrow.Author.Rules.{rules}
-use lib.Dec.{eqb}
-use lib.ListN.{get_or}
-use Rattle.lists.proofs.BoolLaws.{and-true}
 use Rattle.tap.specs.private.Reader.{Apart}
-use Rattle.tap.proofs.ApartLaws.{flag-le, apart-begun, apart_next}
 use Rattle.tap.proofs.groups.zeros_in.Given as goal
 
 abbrev pub invariant-loop-i : goal.invariant-loop-i

@@ -1,5 +1,4 @@
 -- `tap::header::tap_header` meets its contract: the letters, and five bytes stored after them.
-use borrow.Author.Rules.{rules}
 use Rattle.lists.specs.Text.{ascii, low_first}
 use Rattle.tap.specs.Tap.{tap_header}
 use Rattle.tap.proofs.header.tap_header.Goals as goal

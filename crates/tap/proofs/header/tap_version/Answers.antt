@@ -1,8 +1,6 @@
 -- `tap::header::tap_version` meets its contract: refusals 10, 11 and 10, and else the version.
-use native.Mathlib.Omega.{arith}
 use mathlib.Core.Path.{sym, ◌∙◌}
-use borrow.Author.Rules.{rules}
-use Rattle.tap.proofs.HeaderLaws.{tap_version-wrong_letters, wrong_letters-long, tap_version-wrong_tap_version, tap_version-wrong_count, tap_version-accepted}
+use Rattle.tap.proofs.HeaderLaws.{tap_version-wrong_letters, tap_version-wrong_tap_version, tap_version-wrong_count, tap_version-accepted}
 use Rattle.tap.proofs.header.tap_version.Goals as goal
 
 pub returns-then-wrong_letters : goal.returns-then-wrong_letters

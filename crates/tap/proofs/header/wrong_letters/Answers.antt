@@ -1,13 +1,9 @@
 -- `tap::header::wrong_letters` meets its contract: too few bytes, or other letters in front.
-use native.Mathlib.Omega.{arith}
-use mathlib.Core.Path.{sym}
-use borrow.Author.Rules.{rules}
-use lib.Seq.{length-take-le}
 use Rattle.lists.specs.Text.{ascii}
-use Rattle.tap.proofs.HeaderLaws.{wrong_letters-short, wrong_letters-same}
+use Rattle.tap.proofs.HeaderLaws.{wrong_letters-same}
 use Rattle.tap.proofs.header.wrong_letters.Goals as goal
 
 pub returns : goal.returns
 unfolding ascii
 returns c =
-    wrong_letters-same test.before.before.args.file.now c.if1.false c.same.ensures
+    wrong_letters-same c.args.file.now c.if-file-lt-TAP_HEADER_BYTES.false c.same.ensures

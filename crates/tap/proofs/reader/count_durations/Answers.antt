@@ -1,6 +1,5 @@
 -- `tap::reader::count_durations` meets its contract: as many as bytes in version 0, and else those of version 1.
 use mathlib.Core.Path.{sym, ap, ◌∙◌}
-use borrow.Author.Rules.{rules}
 use lib.ListN.{length, length-map}
 use Rattle.refusal.specs.Outcome.{mapped}
 use Rattle.tap.proofs.DataLaws.{durations_in-version0, durations_in-version1}

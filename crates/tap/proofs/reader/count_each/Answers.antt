@@ -1,17 +1,15 @@
 -- `tap::reader::count_each` meets its contract. The invariant: with those counted, the durations from the place on give the whole number.
-use Prim.Native.Nat.{◌-◌, ◌≤◌}
 use native.Mathlib.Omega.{arith}
-use mathlib.Core.Logic.{⊎_elim}
-use borrow.Author.Rules.{rules}
-use lib.ListN.{length}
-use Rattle.tap.specs.private.Reader.{Counted}
 use Rattle.tap.proofs.DataLaws.{durations_from-byte, durations_from-long}
 use Rattle.tap.proofs.ReaderLaws.{count-step}
 use Rattle.tap.proofs.reader.count_each.Goals as goal
+use Rattle.tap.proofs.reader.count_each.Goals.{then-bytes-i-ne0, else-bytes-i-ne0+else-bytes-i-lt-LONG_BYTES}
 
 pub loop-i-preserved : goal.loop-i-preserved
 loop-i-preserved c =
-    ⊎_elim
-    (λ w. rw w.1 (omega arith, count-step c.args.bytes.now c.loop-i.invariant.1 (durations_from-byte c.args.bytes.now c.loop-i.i (omega arith) w.0.taken)))
-    (λ w. rw w.2 (omega arith, count-step c.args.bytes.now c.loop-i.invariant.1 (durations_from-long c.args.bytes.now c.loop-i.i w.0.left (omega (arith, w.1.left)))))
-    c.if-bytes-i-ne0.branch
+    elim c.if-bytes-i-ne0.branch [
+      | then-bytes-i-ne0 w ↦
+          rw w.i-is (omega arith, count-step c.args.bytes.now c.loop-i.invariant.1 (durations_from-byte c.args.bytes.now c.loop-i.i (omega arith) w.if-bytes-i-ne0.true))
+      | else-bytes-i-ne0+else-bytes-i-lt-LONG_BYTES w ↦
+          rw w.i-is (omega arith, count-step c.args.bytes.now c.loop-i.invariant.1 (durations_from-long c.args.bytes.now c.loop-i.i w.if-bytes-i-ne0.false (omega (arith, w.if-bytes-i-lt-LONG_BYTES.false))))
+    ]

@@ -1,12 +1,7 @@
 -- `tap::reader::count_each` meets its contract. The invariant: with those counted, the durations from the place on give the whole number.
 use Prim.Native.Nat.{◌-◌, ◌≤◌}
-use native.Mathlib.Omega.{arith}
-use mathlib.Core.Logic.{⊎_elim}
-use borrow.Author.Rules.{rules}
 use lib.ListN.{length}
 use Rattle.tap.specs.private.Reader.{Counted}
-use Rattle.tap.proofs.DataLaws.{durations_from-byte, durations_from-long}
-use Rattle.tap.proofs.ReaderLaws.{count-step}
 use Rattle.tap.proofs.reader.count_each.Given as goal
 
 abbrev pub invariant-loop-i : goal.invariant-loop-i

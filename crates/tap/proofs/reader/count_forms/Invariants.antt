@@ -1,9 +1,7 @@
 -- `tap::reader::count_forms` meets its contract. The invariant: with those counted, the durations from the place on give the whole number.
 use Prim.Native.Nat.{◌-◌}
-use borrow.Author.Rules.{rules}
 use lib.ListN.{length}
 use Rattle.tap.specs.private.Reader.{Counted}
-use Rattle.tap.proofs.ReaderLaws.{count-begun, count_cut, count-done}
 use Rattle.tap.proofs.reader.count_forms.Given as goal
 
 abbrev pub invariant-loop-i : goal.invariant-loop-i

@@ -1,12 +1,7 @@
 -- `tap::reader::fill_cycles` meets its contract. The invariant: the durations left, put after those that are there, give them all.
-use Prim.Native.Nat.{◌-◌, ◌≤◌}
 use native.Mathlib.Omega.{arith}
-use mathlib.Core.List.{map}
-use borrow.Author.Rules.{rules}
-use lib.ListN.{length}
-use Rattle.lists.proofs.LoopLaws.{Copied, copy-begun}
 use Rattle.tap.specs.private.Forms.{lone_cycles}
-use Rattle.tap.proofs.GroupLaws.{copy-mapped-next, copy-mapped-done}
+use Rattle.tap.proofs.GroupLaws.{copy-mapped-next}
 use Rattle.tap.proofs.reader.fill_cycles.Goals as goal
 
 pub loop-i-preserved : goal.loop-i-preserved

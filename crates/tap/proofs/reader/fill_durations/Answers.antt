@@ -2,7 +2,6 @@
 use native.Mathlib.Nat.{zero-add}
 use native.Mathlib.Omega.{arith}
 use mathlib.Core.Path.{sym, ap, ◌∙◌}
-use borrow.Author.Rules.{rules}
 use lib.ListN.{length-map}
 use lib.Seq.{sets}
 use Rattle.refusal.specs.Outcome.{puts}
@@ -20,7 +19,7 @@ returns-then-version-eq0 c =
 pub fill_forms-requires : goal.fill_forms-requires
 fill_forms-requires c =
     let version1 = durations_in-version1 c.args.version c.if-version-eq0.false 0 c.args.bytes.now in
-    record { within = omega arith; c.requires.sound = rw version1 at c.requires.sound; c.requires.room = rw zero-add (rw version1 at c.requires.room) }
+    record { within = omega arith; sound = rw version1 at c.requires.sound; room = rw zero-add (rw version1 at c.requires.room) }
 
 pub returns : goal.returns
 returns c =

@@ -1,16 +1,12 @@
 -- `tap::reader::fill_each` meets its contract. The invariant: the durations left, put after those that are there, give the same.
-use Prim.Native.Nat.{◌-◌, ◌≤◌}
 use native.Mathlib.Omega.{arith}
 use mathlib.Core.Path.{refl, ap, ◌∙◌}
-use mathlib.Core.Logic.{⊎_elim}
 use mathlib.Core.List.{[], ◌∷◌}
-use borrow.Author.Rules.{rules}
-use lib.ListN.{length}
 use lib.Seq.{sets}
-use Rattle.tap.specs.private.Reader.{FilledTo}
 use Rattle.tap.proofs.DataLaws.{durations_from-byte, durations_from-long}
 use Rattle.tap.proofs.ReaderLaws.{sound-long, fillable-more, fill_step, fill-length}
 use Rattle.tap.proofs.reader.fill_each.Goals as goal
+use Rattle.tap.proofs.reader.fill_each.Goals.{then-first-ne0, else-first-ne0}
 
 pub bounds-out-k : goal.bounds-out-k
 bounds-out-k c =
@@ -28,12 +24,14 @@ bounds-out-k-else-first-ne0 c =
 
 pub loop-i-preserved : goal.loop-i-preserved
 loop-i-preserved c =
-    ⊎_elim
-    (λ w.
-    rw w.3
-    (omega arith, fill_step c.args.bytes.now c.loop-i.invariant.1 (durations_from-byte c.args.bytes.now c.loop-i.i (omega arith) w.0.taken) (w.2 ∙ ap (λ d. sets c.loop-i.out c.loop-i.k (d ∷ [])) w.1.ensures) refl))
-    (λ w.
-    let long = sound-long c.args.bytes.now c.loop-i.i (omega arith) c.loop-i.invariant.1.fillable.sound w.0.left in
-    rw w.3
-    (omega arith, fill_step c.args.bytes.now c.loop-i.invariant.1 (durations_from-long c.args.bytes.now c.loop-i.i w.0.left long) (w.2 ∙ ap (λ d. sets c.loop-i.out c.loop-i.k (d ∷ [])) w.1.ensures) refl))
-    c.if-first-ne0.branch
+    elim c.if-first-ne0.branch [
+      | then-first-ne0 w ↦
+          let put = w.out-is ∙ ap (λ d. sets c.loop-i.out c.loop-i.k (d ∷ [])) w.byte_cycles.ensures in
+          rw w.i-is
+          (omega arith, fill_step c.args.bytes.now c.loop-i.invariant.1 (durations_from-byte c.args.bytes.now c.loop-i.i (omega arith) w.if-first-ne0.true) put refl)
+      | else-first-ne0 w ↦
+          let long = sound-long c.args.bytes.now c.loop-i.i (omega arith) c.loop-i.invariant.1.fillable.sound w.if-first-ne0.false in
+          let put = w.out-is ∙ ap (λ d. sets c.loop-i.out c.loop-i.k (d ∷ [])) w.long_cycles.ensures in
+          rw w.i-is
+          (omega arith, fill_step c.args.bytes.now c.loop-i.invariant.1 (durations_from-long c.args.bytes.now c.loop-i.i w.if-first-ne0.false long) put refl)
+    ]

@@ -1,15 +1,7 @@
 -- `tap::reader::fill_each` meets its contract. The invariant: the durations left, put after those that are there, give the same.
 use Prim.Native.Nat.{◌-◌, ◌≤◌}
-use native.Mathlib.Omega.{arith}
-use mathlib.Core.Path.{refl, ap, ◌∙◌}
-use mathlib.Core.Logic.{⊎_elim}
-use mathlib.Core.List.{[], ◌∷◌}
-use borrow.Author.Rules.{rules}
 use lib.ListN.{length}
-use lib.Seq.{sets}
 use Rattle.tap.specs.private.Reader.{FilledTo}
-use Rattle.tap.proofs.DataLaws.{durations_from-byte, durations_from-long}
-use Rattle.tap.proofs.ReaderLaws.{sound-long, fillable-more, fill_step, fill-length}
 use Rattle.tap.proofs.reader.fill_each.Given as goal
 
 abbrev pub invariant-loop-i : goal.invariant-loop-i

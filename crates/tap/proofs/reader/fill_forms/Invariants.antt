@@ -1,9 +1,7 @@
 -- `tap::reader::fill_forms` meets its contract. The invariant: the durations left, put after those that are there, give them all.
 use Prim.Native.Nat.{◌-◌}
-use borrow.Author.Rules.{rules}
 use lib.ListN.{length}
 use Rattle.tap.specs.private.Reader.{FilledTo}
-use Rattle.tap.proofs.ReaderLaws.{fill-then, fill-length, fill_done}
 use Rattle.tap.proofs.reader.fill_forms.Given as goal
 
 abbrev pub invariant-loop-i : goal.invariant-loop-i

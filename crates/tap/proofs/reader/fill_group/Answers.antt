@@ -2,7 +2,6 @@
 use Prim.Native.Nat.{◌+◌}
 use native.Mathlib.Omega.{arith}
 use mathlib.Core.Path.{sym, ◌∙◌, ap}
-use borrow.Author.Rules.{rules}
 use lib.ListN.{length-map}
 use Rattle.tap.proofs.DataLaws.{length_run, durations_from-run}
 use Rattle.tap.proofs.ReaderLaws.{fillable-room, fill-begun, fill_step}
@@ -18,4 +17,4 @@ pub returns-then-no_zeros : goal.returns-then-no_zeros
 returns-then-no_zeros c =
     let run = durations_from-run c.args.bytes.now c.args.start c.group_end-end.result (omega arith) (omega arith) (sym c.no_zeros.ensures ∙ c.if-no_zeros.true) in
     let width = length_run c.args.bytes.now c.args.start c.group_end-end.result (omega arith) (omega arith) in
-    record { start_lt_place = omega arith; filled_to = fill_step c.args.bytes.now (fill-begun c.args.bytes.now c.requires.fillable) run c.fill_cycles.ensures (ap (λ m. c.args.k + m) (sym width)) }
+    record { further = omega arith; filled = fill_step c.args.bytes.now (fill-begun c.args.bytes.now c.requires.fillable) run c.fill_cycles.ensures (ap (λ m. c.args.k + m) (sym width)) }

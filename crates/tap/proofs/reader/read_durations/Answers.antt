@@ -1,6 +1,5 @@
 -- `tap::reader::read_durations` meets its contract: refusals 12 and 2, and else the durations, put in front.
-use borrow.Author.Rules.{rules}
-use Rattle.tap.proofs.ReaderLaws.{read_durations-cut_long_form, durations_in-sound, length-durations_in, read_durations-no_room, read_durations-accepted}
+use Rattle.tap.proofs.ReaderLaws.{read_durations-cut_long_form, read_durations-no_room, read_durations-accepted}
 use Rattle.tap.proofs.reader.read_durations.Goals as goal
 
 pub returns-then-out-count : goal.returns-then-out-count

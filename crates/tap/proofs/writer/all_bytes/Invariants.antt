@@ -1,12 +1,9 @@
 -- `tap::writer::all_bytes` meets its contract. The invariant: with the durations tested, the rest gives the answer.
 use Prim.Native.Nat.{◌-◌, ◌≤◌}
-use native.Mathlib.Omega.{arith}
-use mathlib.Core.Path.{sym, ◌∙◌}
 use mathlib.Core.List.{map}
-use borrow.Author.Rules.{rules}
-use lib.ListN.{length, length-map}
+use lib.ListN.{length}
 use Rattle.tap.specs.private.Forms.{byte_units}
-use Rattle.tap.proofs.GroupLaws.{Tested, test-next, test-done, get_or-mapped}
+use Rattle.tap.proofs.GroupLaws.{Tested}
 use Rattle.tap.proofs.writer.all_bytes.Given as goal
 
 abbrev pub invariant-loop-i : goal.invariant-loop-i

@@ -1,9 +1,6 @@
 -- `tap::writer::first_without` meets its contract. The invariant: the first duration without a form is the first from the place on, and there is one.
-use Prim.Native.Nat.{◌-◌}
 use native.Mathlib.Omega.{arith}
-use borrow.Author.Rules.{rules}
-use lib.ListN.{length}
-use Rattle.tap.proofs.WriterLaws.{Searched, search-begun, search-within, search-next, search-done}
+use Rattle.tap.proofs.WriterLaws.{search-within, search-next, search-done}
 use Rattle.tap.proofs.writer.first_without.Goals as goal
 
 pub offset_bounds-durations-i : goal.offset_bounds-durations-i

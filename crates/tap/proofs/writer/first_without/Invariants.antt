@@ -1,9 +1,7 @@
 -- `tap::writer::first_without` meets its contract. The invariant: the first duration without a form is the first from the place on, and there is one.
 use Prim.Native.Nat.{◌-◌}
-use native.Mathlib.Omega.{arith}
-use borrow.Author.Rules.{rules}
 use lib.ListN.{length}
-use Rattle.tap.proofs.WriterLaws.{Searched, search-begun, search-within, search-next, search-done}
+use Rattle.tap.proofs.WriterLaws.{Searched}
 use Rattle.tap.proofs.writer.first_without.Given as goal
 
 abbrev pub invariant-loop-i : goal.invariant-loop-i

@@ -1,6 +1,5 @@
 -- `tap::writer::measure_forms` meets its contract: the first duration without a form, where one is missing, and else the sum.
 use mathlib.Core.Path.{sym, ◌∙◌}
-use borrow.Author.Rules.{rules}
 use Rattle.tap.proofs.WriterLaws.{data_of-no_tap_form, data_of-accepted}
 use Rattle.tap.proofs.writer.measure_forms.Goals as goal
 
@@ -10,4 +9,4 @@ returns-then-sum c =
 
 pub returns : goal.returns
 returns c =
-    data_of-accepted c.args.version c.args.durations.now (sym c.sum_widths-sum.ensures.missing_value ∙ c.if-sum.false) c.sum_widths-sum.ensures.bytes_value
+    data_of-accepted c.args.version c.args.durations.now (sym c.sum_widths-sum.ensures.missing ∙ c.if-sum.false) c.sum_widths-sum.ensures.bytes

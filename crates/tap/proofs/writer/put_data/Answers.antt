@@ -1,10 +1,7 @@
 -- `tap::writer::put_data` meets its contract. The invariant: the forms of the durations left, put after those that are there, give all data bytes.
-use Prim.Native.Nat.{◌-◌}
 use native.Mathlib.Omega.{arith}
-use borrow.Author.Rules.{rules}
-use lib.ListN.{length}
 use Rattle.tap.proofs.FormLaws.{tap_data-part}
-use Rattle.tap.proofs.WriterLaws.{DataPut, DataPut-room, DataPut-next, DataPut-done}
+use Rattle.tap.proofs.WriterLaws.{DataPut-room, DataPut-next, DataPut-done}
 use Rattle.tap.proofs.writer.put_data.Goals as goal
 
 pub put_group-at-requires : goal.put_group-at-requires
@@ -15,7 +12,7 @@ put_group-at-requires c =
 pub loop-i-preserved : goal.loop-i-preserved
 loop-i-preserved c =
     let part = tap_data-part c.args.version c.args.durations.now c.loop-i.i c.group_end-end.result (omega arith) (omega arith) in
-    DataPut-next c.args.version c.args.durations.now c.args.out.now 20 c.loop-i.invariant part c.put_group-at.ensures.out_after c.put_group-at.ensures.value
+    DataPut-next c.args.version c.args.durations.now c.args.out.now 20 c.loop-i.invariant part c.put_group-at.ensures.put c.put_group-at.ensures.value
 
 pub returns : goal.returns
 returns c =

@@ -1,10 +1,7 @@
 -- `tap::writer::put_data` meets its contract. The invariant: the forms of the durations left, put after those that are there, give all data bytes.
 use Prim.Native.Nat.{◌-◌}
-use native.Mathlib.Omega.{arith}
-use borrow.Author.Rules.{rules}
 use lib.ListN.{length}
-use Rattle.tap.proofs.FormLaws.{tap_data-part}
-use Rattle.tap.proofs.WriterLaws.{DataPut, DataPut-room, DataPut-next, DataPut-done}
+use Rattle.tap.proofs.WriterLaws.{DataPut}
 use Rattle.tap.proofs.writer.put_data.Given as goal
 
 abbrev pub invariant-loop-i : goal.invariant-loop-i

@@ -1,9 +1,7 @@
 -- `tap::writer::put_each` meets its contract. The invariant: the forms of the durations left, put after those that are there, give all data bytes.
 use Prim.Native.Nat.{◌-◌}
-use borrow.Author.Rules.{rules}
 use lib.ListN.{length}
-use Rattle.tap.proofs.FormLaws.{tap_data-next}
-use Rattle.tap.proofs.WriterLaws.{DataPut, DataPut-room, DataPut-next, DataPut-end, DataPut-done}
+use Rattle.tap.proofs.WriterLaws.{DataPut}
 use Rattle.tap.proofs.writer.put_each.Given as goal
 
 abbrev pub invariant-loop-i : goal.invariant-loop-i

@@ -1,7 +1,6 @@
 -- `tap::writer::put_group` meets its contract: units where all durations have the one-byte form, and else form by form.
 use Prim.Native.Nat.{◌+◌}
 use mathlib.Core.Path.{sym, ap, ◌∙◌}
-use borrow.Author.Rules.{rules}
 use lib.ListN.{length, length-map}
 use lib.Seq.{sets}
 use Rattle.tap.specs.private.Forms.{byte_units}
@@ -15,7 +14,8 @@ put_units-requires c =
 
 pub returns-then-all_bytes : goal.returns-then-all_bytes
 returns-then-all_bytes c =
-    let units = tap_data-units c.args.version c.args.durations.now (sym c.all_bytes.ensures ∙ c.if-all_bytes.true) in (
-      ap (λ n. c.args.at + n) (sym (ap length units ∙ length-map c.args.durations.now byte_units)),
-      c.put_units.ensures ∙ ap (sets c.args.out.now c.args.at) (sym units),
-    )
+    let units = tap_data-units c.args.version c.args.durations.now (sym c.all_bytes.ensures ∙ c.if-all_bytes.true) in
+    record {
+      value = ap (λ n. c.args.at + n) (sym (ap length units ∙ length-map c.args.durations.now byte_units));
+      put = c.put_units.ensures ∙ ap (sets c.args.out.now c.args.at) (sym units);
+    }

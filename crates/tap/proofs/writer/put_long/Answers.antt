@@ -1,7 +1,4 @@
 -- `tap::writer::put_long` meets its contract: four stores, one after the other.
-use native.Mathlib.Omega.{arith}
-use borrow.Author.Rules.{rules}
-use lib.ListN.{length-set}
 use Rattle.tap.proofs.WriterLaws.{sets-long_form}
 use Rattle.tap.proofs.writer.put_long.Goals as goal
 

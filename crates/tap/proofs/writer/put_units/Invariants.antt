@@ -1,12 +1,9 @@
 -- `tap::writer::put_units` meets its contract. The invariant: the forms left, put after those that are there, give them all.
 use Prim.Native.Nat.{◌-◌, ◌≤◌}
-use native.Mathlib.Omega.{arith}
 use mathlib.Core.List.{map}
-use borrow.Author.Rules.{rules}
 use lib.ListN.{length}
-use Rattle.lists.proofs.LoopLaws.{Copied, copy-begun}
+use Rattle.lists.proofs.LoopLaws.{Copied}
 use Rattle.tap.specs.private.Forms.{byte_units}
-use Rattle.tap.proofs.GroupLaws.{copy-mapped-next, copy-mapped-done}
 use Rattle.tap.proofs.writer.put_units.Given as goal
 
 abbrev pub invariant-loop-i : goal.invariant-loop-i

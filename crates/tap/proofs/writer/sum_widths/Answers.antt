@@ -1,10 +1,8 @@
 -- `tap::writer::sum_widths` meets its contract. The invariant: with the forms of the durations before, those of the rest give all data bytes, and whether one is missing.
-use Prim.Native.Nat.{◌-◌}
 use native.Mathlib.Omega.{arith}
-use borrow.Author.Rules.{rules}
-use lib.ListN.{length, get_or}
+use lib.ListN.{get_or}
 use Rattle.tap.proofs.FormLaws.{width-form_of}
-use Rattle.tap.proofs.WriterLaws.{MeasuredForms, measure-begun, measure-next, measure-done}
+use Rattle.tap.proofs.WriterLaws.{measure-next, measure-done}
 use Rattle.tap.proofs.writer.sum_widths.Goals as goal
 
 pub overflow_add-bytes : goal.overflow_add-bytes
@@ -17,4 +15,5 @@ loop-i-preserved c =
 
 pub returns : goal.returns
 returns c =
-    measure-done c.args.version c.args.durations.now c.loop-i.invariant c.loop-i-test.false
+    let done = measure-done c.args.version c.args.durations.now c.loop-i.invariant c.loop-i-test.false in
+    record { bytes = done.0; missing = done.1 }

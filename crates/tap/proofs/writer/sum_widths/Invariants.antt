@@ -1,10 +1,7 @@
 -- `tap::writer::sum_widths` meets its contract. The invariant: with the forms of the durations before, those of the rest give all data bytes, and whether one is missing.
 use Prim.Native.Nat.{◌-◌}
-use native.Mathlib.Omega.{arith}
-use borrow.Author.Rules.{rules}
-use lib.ListN.{length, get_or}
-use Rattle.tap.proofs.FormLaws.{width-form_of}
-use Rattle.tap.proofs.WriterLaws.{MeasuredForms, measure-begun, measure-next, measure-done}
+use lib.ListN.{length}
+use Rattle.tap.proofs.WriterLaws.{MeasuredForms}
 use Rattle.tap.proofs.writer.sum_widths.Given as goal
 
 abbrev pub invariant-loop-i : goal.invariant-loop-i
