@@ -9,7 +9,8 @@ use Rattle.listing.proofs.load.Goals as goal
 
 pub returns-then-file-gt-MOST_INPUT : goal.returns-then-file-gt-MOST_INPUT
 returns-then-file-gt-MOST_INPUT c =
-    file_in-wrong_size c.args.file.now c.args.header.now c.if-file-gt-MOST_INPUT.true c.at.ensures
+    let k = file_in-wrong_size c.args.file.now c.args.header.now c.if-file-gt-MOST_INPUT.true c.at.ensures in
+    record { answer = k.0; header = k.1 }
 
 pub slice_bounds-strip-end : goal.slice_bounds-strip-end
 slice_bounds-strip-end c =
@@ -21,8 +22,10 @@ slice_bounds-read_file-end c =
 
 pub returns-in-Refused : goal.returns-in-Refused
 returns-in-Refused c =
-    file_in-no_tape c.args.file.now c.args.header.now c.if-file-gt-MOST_INPUT.false c.read_tap.ensures c.in-Refused.is
+    let k = file_in-no_tape c.args.file.now c.args.header.now c.if-file-gt-MOST_INPUT.false c.read_tap.ensures c.in-Refused.is in
+    record { answer = k.0; header = k.1 }
 
 pub returns-in-Accepted : goal.returns-in-Accepted
 returns-in-Accepted c =
-    file_in-read c.args.file.now c.args.header.now c.if-file-gt-MOST_INPUT.false c.read_tap.ensures c.in-Accepted.is c.read_file.result (replicate 8192 0) c.requires (length-replicate {A = ℕ} 8192 0) c.read_file.ensures
+    let k = file_in-read c.args.file.now c.args.header.now c.if-file-gt-MOST_INPUT.false c.read_tap.ensures c.in-Accepted.is c.read_file.result (replicate 8192 0) c.requires (length-replicate {A = ℕ} 8192 0) c.read_file.ensures in
+    record { answer = k.0; header = k.1 }
