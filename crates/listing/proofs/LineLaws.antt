@@ -6,14 +6,14 @@ use native.Mathlib.Decide.{dec_lt}
 use native.Mathlib.Omega.{arith}
 use mathlib.Core.Path.{◌≡◌, refl, sym, ap, ◌∙◌}
 use mathlib.Core.Bool.{Bool, true, false, cond}
-use mathlib.Core.List.{List, [], ◌∷◌, ◌++◌, map}
+use mathlib.Core.List.{List, [], ◌∷◌, ◌++◌, map, append_assoc}
 use borrow.Author.Tests.{lt-ltb, le-ltb}
 use lib.Dec.{ltb}
 use lib.ListN.{length, take, drop, get_or, set, length-append, length-map, length-take, length-drop, drop_of_length-le}
-use lib.Seq.{sets, length-sets, drop-cons}
-use Rattle.lists.specs.Places.{part}
+use lib.Seq.{sets, length-sets, sets-eq, drop-drop, drop-cons}
+use borrow.Rule.Slice.PartMut.{put_mid}
 use Rattle.lists.specs.Text.{ascii}
-use Rattle.lists.proofs.BufferLaws.{put-copied, sets-lent, sets-append}
+use Rattle.lists.proofs.BufferLaws.{sets-append}
 use Rattle.lists.proofs.LoopLaws.{Putting, put-begun, put_one, put-done}
 use Rattle.refusal.specs.declared.Refusal.{Refusal}
 use Rattle.refusal.specs.Refusal.{number_of}
@@ -31,12 +31,11 @@ use Rattle.listing.specs.private.Lines.{Appended, answer_text}
 
 -- ---- Text that is copied into the part of a buffer from a place on
 
-pub text-put : (out : List ℕ) (at : ℕ) (text : List ℕ) {lent : List ℕ} → at + length text ≤ length out
-    → lent ≡ take (length text) text ++ drop (length text) (part out at (length out - at))
-    → take at out ++ (lent ++ drop (length out - at) (drop at out)) ≡ sets out at text
+pub text-put : (out : List ℕ) (at : ℕ) (text : List ℕ) {copied : List ℕ} → at + length text ≤ length out → copied ≡ text
+    → put_mid at (at + length text - at) out copied ≡ sets out at text
 text-put out at text h e =
-    let room : length text ≤ length (part out at (length out - at)) = simp (length-take, length-drop) (omega arith) in
-    sets-lent out text at h (put-copied (part out at (length out - at)) text room e)
+    let n : at + length text - at ≡ length text = omega arith in
+    rw (e, n, drop-drop) (sym (append_assoc (take at out) text _) ∙ sym (sets-eq text out at h))
 
 -- ---- Appended
 

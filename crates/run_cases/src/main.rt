@@ -1,13 +1,15 @@
 // The cases of document 01 that are run and compared: the largest payload, one byte more, a leader that is too short, how many short
 // pulses a start needs before it; and its example of a program file, damaged and read back.
 #![tactic(auto)]
+
 ghost use Rattle.std.specs.Prelude.{◌+◌, ◌≤◌, length};
 
 use block::BlockAnswer;
 use file::FileAnswer;
 use header::Fields;
-use libc::STDOUT_FILENO;
 use refusal::{Put, Refusal};
+use std::io;
+use std::io::Write;
 
 const LEADER: usize = 64;
 
@@ -24,50 +26,50 @@ const HEADER_BYTE: usize = LEADER + 20 * 9;
 
 const DATA_BYTE: usize = 8266 + LEADER + 20 * 26 + 61 + 20 * 9;
 
-fn main() {
-    say(b"n = 8192\n");
-    largest();
-    say(b"n = 8193\n");
-    too_large();
-    say(b"K = 63\n");
-    short_leader();
-    say(b"15 short pulses before $89\n");
-    shorts_before(15);
-    say(b"16 short pulses before $89\n");
-    shorts_before(16);
-    say(b"GAME, three pulses of a byte spoilt in each block\n");
-    program_file();
+fn main(rt: HostRuntime) -> io::Result<()> {
+    println!(rt; "n = 8192")?;
+    largest(&rt)?;
+    println!(rt; "n = 8193")?;
+    too_large(&rt)?;
+    println!(rt; "K = 63")?;
+    short_leader(&rt)?;
+    println!(rt; "15 short pulses before $89")?;
+    shorts_before(&rt, 15)?;
+    println!(rt; "16 short pulses before $89")?;
+    shorts_before(&rt, 16)?;
+    println!(rt; "GAME, three pulses of a byte spoilt in each block")?;
+    program_file(&rt)
 }
 
 // Writes the largest payload and reads it back.
-fn largest() {
+fn largest(rt: &HostRuntime) -> io::Result<()> {
     let mut payload = [0u8; 8192];
     number_bytes(&mut payload);
-    let mut strip = [0u32; LARGE_STRIP];
+    let mut strip = vec![in rt.alloc(); 0u32; LARGE_STRIP]?;
     let mut out = [0u8; 8192];
-    say_put(block::write_block(&payload, LEADER, &mut strip));
-    say_block(block::read_block(&strip, 0, 8192, &mut out));
+    say_put(rt, block::write_block(&payload, LEADER, &mut strip))?;
+    say_block(rt, block::read_block(&strip, 0, 8192, &mut out))?;
     if check::same(&payload, &out) {
-        say(b"the payload written\n");
+        println!(rt; "the payload written")
     } else {
-        say(b"another payload\n");
+        println!(rt; "another payload")
     }
 }
 
-fn too_large() {
+fn too_large(rt: &HostRuntime) -> io::Result<()> {
     let payload = [0u8; 8193];
-    let mut strip = [0u32; LARGE_STRIP];
-    say_put(block::write_block(&payload, LEADER, &mut strip));
+    let mut strip = vec![in rt.alloc(); 0u32; LARGE_STRIP]?;
+    say_put(rt, block::write_block(&payload, LEADER, &mut strip))
 }
 
-fn short_leader() {
+fn short_leader(rt: &HostRuntime) -> io::Result<()> {
     let payload = [0u8; 1];
     let mut strip = [0u32; SMALL_STRIP];
-    say_put(block::write_block(&payload, LEADER - 1, &mut strip));
+    say_put(rt, block::write_block(&payload, LEADER - 1, &mut strip))
 }
 
 // Reads a block of one byte from a strip whose leader was cut to this many pulses.
-fn shorts_before(shorts: usize)
+fn shorts_before(rt: &HostRuntime, shorts: usize) -> io::Result<()>
     requires { shorts ≤ 64 }
 {
     let payload = [0x41u8; 1];
@@ -75,11 +77,11 @@ fn shorts_before(shorts: usize)
     let mut out = [0u8; 1];
     block::write_block(&payload, LEADER, &mut strip);
     let cut = LEADER - shorts;
-    say_block(block::read_block(&strip[cut..], 0, 1, &mut out));
+    say_block(rt, block::read_block(&strip[cut..], 0, 1, &mut out))
 }
 
 // Writes the program of the example, spoils copy one's first payload byte in the header and copy two's in the data, and reads it back.
-fn program_file() {
+fn program_file(rt: &HostRuntime) -> io::Result<()> {
     let mut bytes = [0u8; 16];
     number_bytes(&mut bytes);
     let fields = Fields {
@@ -90,16 +92,19 @@ fn program_file() {
     let mut strip = [0u32; FILE_STRIP];
     let mut header = [0u8; header::HEADER_BYTES];
     let mut out = [0u8; 16];
-    say_put(file::write_file(fields, b"GAME", &bytes, LEADER, LEADER, &mut strip));
+    say_put(
+        rt,
+        file::write_file(fields, b"GAME", &bytes, LEADER, LEADER, &mut strip),
+    )?;
     spoil(&mut strip, HEADER_BYTE);
     spoil(&mut strip, DATA_BYTE);
-    say_file(file::read_file(&strip, 0, &mut header, &mut out));
-    say(header::shown_name(&header));
-    say(b"\n");
+    say_file(rt, file::read_file(&strip, 0, &mut header, &mut out))?;
+    rt.stdout().write_all(header::shown_name(&header))?;
+    println!(rt)?;
     if check::same(&bytes, &out) {
-        say(b"the bytes written\n");
+        println!(rt; "the bytes written")
     } else {
-        say(b"other bytes\n");
+        println!(rt; "other bytes")
     }
 }
 
@@ -122,59 +127,41 @@ fn number_bytes(bytes: &mut [u8]) {
     }
 }
 
-fn say(text: &[u8]) {
-    io::write_all(STDOUT_FILENO, text);
+fn say_refusal(rt: &HostRuntime, r: Refusal) -> io::Result<()> {
+    let number = refusal::number_of(r.reason);
+    let block = r.block;
+    let place = r.place;
+    println!(rt; "refused {number} {block} {place}")
 }
 
-fn say_number(n: usize) {
-    say(b" ");
-    io::print_decimal(STDOUT_FILENO, n as u64);
-}
-
-fn say_refusal(r: Refusal) {
-    let reason = r.reason;
-    say(b"refused");
-    say_number(refusal::number_of(reason) as usize);
-    say_number(r.block as usize);
-    say_number(r.place);
-    say(b"\n");
-}
-
-fn say_put(answer: Put) {
+fn say_put(rt: &HostRuntime, answer: Put) -> io::Result<()> {
     match answer {
-        Put::Count(n) => {
-            say(b"pulses put:");
-            say_number(n);
-            say(b"\n");
-        }
-        Put::Refused(r) => say_refusal(r),
+        Put::Count(n) => println!(rt; "pulses put: {n}"),
+        Put::Refused(r) => say_refusal(rt, r),
     }
 }
 
-fn say_block(answer: BlockAnswer) {
+fn say_block(rt: &HostRuntime, answer: BlockAnswer) -> io::Result<()> {
     match answer {
         BlockAnswer::Accepted(e) => {
-            say(b"n, start, end:");
-            say_number(e.n);
-            say_number(e.start);
-            say_number(e.end);
-            say(b"\n");
+            let n = e.n;
+            let start = e.start;
+            let end = e.end;
+            println!(rt; "n, start, end: {n} {start} {end}")
         }
-        BlockAnswer::Refused(r) => say_refusal(r),
+        BlockAnswer::Refused(r) => say_refusal(rt, r),
     }
 }
 
-fn say_file(answer: FileAnswer) {
+fn say_file(rt: &HostRuntime, answer: FileAnswer) -> io::Result<()> {
     match answer {
         FileAnswer::Accepted(l) => {
-            let fields = l.fields;
-            say(b"type, start, end, end of the data block:");
-            say_number(fields.kind as usize);
-            say_number(fields.start as usize);
-            say_number(fields.end as usize);
-            say_number(l.stop);
-            say(b"\n");
+            let kind = l.fields.kind;
+            let start = l.fields.start;
+            let end = l.fields.end;
+            let stop = l.stop;
+            println!(rt; "type, start, end, end of the data block: {kind} {start} {end} {stop}")
         }
-        FileAnswer::Refused(r) => say_refusal(r),
+        FileAnswer::Refused(r) => say_refusal(rt, r),
     }
 }

@@ -1,11 +1,14 @@
 // Lists the program file that a TAP file holds: tape_list < FILE
 #![tactic(auto)]
-use libc::{STDIN_FILENO, STDOUT_FILENO};
+use std::io;
+use std::io::{Read, Write};
 
-fn main() {
-    let mut file = [0u8; listing::INPUT_ROOM];
+fn main(rt: HostRuntime) -> io::Result<()> {
+    let mut file = Vec::new(rt.alloc());
+    rt.stdin()
+        .take(listing::INPUT_ROOM as u64)
+        .read_to_end(&mut file)?;
     let mut text = [0u8; listing::MOST_TEXT];
-    let n = io::read_full(STDIN_FILENO, &mut file);
-    let count = listing::list_tape(&file[..n], &mut text);
-    io::write_all(STDOUT_FILENO, &text[..count]);
+    let count = listing::list_tape(&file, &mut text);
+    rt.stdout().write_all(&text[..count])
 }

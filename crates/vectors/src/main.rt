@@ -1,44 +1,42 @@
 // Lists TAP files that an independent tool made. The arguments are their names; the output is compared with the listings expected.
 // docs/TESTING.md says what is known of the tool.
 #![tactic(auto)]
-use libc::STDOUT_FILENO;
+use std::fs::File;
+use std::io::{Read, Write};
+use std::{env, io};
 
 // The length of '.tap', with which every name has to end and which is not printed.
 const SUFFIX_BYTES: usize = 4;
 
-fn main() {
-    let count = os::arg_count();
-    let mut i: usize = 1;
-    while i < count {
-        list_argument(i);
-        i = i + 1;
+fn main(rt: HostRuntime) -> io::Result<()> {
+    for path in env::args(&rt)?.skip(1) {
+        list_argument(&rt, path.as_str())?;
     }
+    Ok(())
 }
 
 // Prints the name of the file that an argument names, and its listing.
-fn list_argument(i: usize) {
-    let mut path = io::buffer();
-    let n = os::arg(i, &mut path);
-    if n < SUFFIX_BYTES {
-        return;
+fn list_argument(rt: &HostRuntime, path: &str) -> io::Result<()> {
+    let name = path.as_bytes();
+    if name.len() < SUFFIX_BYTES {
+        return Ok(());
     }
-    let end = n - SUFFIX_BYTES;
-    io::write_all(STDOUT_FILENO, b"== ");
-    io::write_all(STDOUT_FILENO, &path[..end]);
-    io::write_all(STDOUT_FILENO, b"\n");
-    let fd = os::open_read(&path[..n]);
-    if fd < 0 {
-        os::fail(&path[..n]);
-        return;
+    let end = name.len() - SUFFIX_BYTES;
+    let mut out = rt.stdout();
+    out.write_all(b"== ")?;
+    out.write_all(&name[..end])?;
+    out.write_all(b"\n")?;
+    match File::open(rt, path) {
+        Ok(file) => list_file(rt, file),
+        Err(e) => eprintln!(rt; "{path}: {e}"),
     }
-    list_file(fd);
-    libc::close(fd);
 }
 
-fn list_file(fd: i32) {
-    let mut file = [0u8; listing::INPUT_ROOM];
+fn list_file(rt: &HostRuntime, file: File) -> io::Result<()> {
+    let mut bytes = Vec::new(rt.alloc());
+    file.take(listing::INPUT_ROOM as u64)
+        .read_to_end(&mut bytes)?;
     let mut text = [0u8; listing::MOST_TEXT];
-    let n = io::read_full(fd, &mut file);
-    let count = listing::list_tape(&file[..n], &mut text);
-    io::write_all(STDOUT_FILENO, &text[..count]);
+    let count = listing::list_tape(&bytes, &mut text);
+    rt.stdout().write_all(&text[..count])
 }

@@ -1,0 +1,11 @@
+-- `listing::printed_as` meets its contract: code and definition go by the same test.
+use Rattle.listing.specs.Listing.{printed}
+use Rattle.listing.proofs.printed_as.Goals as goal
+
+pub returns-then-b : goal.returns-then-b
+unfolding printed
+returns-then-b c = rw c.if-b.true
+
+pub returns-else-b : goal.returns-else-b
+unfolding printed
+returns-else-b c = rw c.if-b.false
