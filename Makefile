@@ -7,8 +7,9 @@ TAPE = samples/game.tap
 LIB = target/crumbthistle
 
 run: # prove and build the listing program, then list a tape: make run TAPE=FILE
-	@mkdir -p target
-	@rt check tape_list > target/run.log 2>&1 || { tail -n 40 target/run.log; exit 1; }
+	@mkdir -p target/bin
+	@cd crates/tape_list && rt run < /dev/null > ../../target/run.log 2>&1 || { tail -n 40 ../../target/run.log; exit 1; }
+	@cp crates/tape_list/out/tape_list target/bin/
 	@target/bin/tape_list < "$(TAPE)"
 
 test: # prove everything from nothing, try the edits that must be refused, run every program; then the tests beside the proofs
@@ -16,15 +17,15 @@ test: # prove everything from nothing, try the edits that must be refused, run e
 
 lib: # prove and build the library for C
 	@mkdir -p target
-	@rt staticlib capi > target/lib.log 2>&1 || { tail -n 40 target/lib.log; exit 1; }
+	@cd crates/capi && rt lib > ../../target/lib.log 2>&1 || { tail -n 40 ../../target/lib.log; exit 1; }
 	@mkdir -p "$(LIB)/include" "$(LIB)/lib"
 	@cp include/crumbthistle.h "$(LIB)/include/"
-	@cp target/staticlib/libcapi.a "$(LIB)/lib/libcrumbthistle.a"
+	@cp crates/capi/out/libcapi.a "$(LIB)/lib/libcrumbthistle.a"
 	@echo "cc -I$(LIB)/include PROGRAM.c -L$(LIB)/lib -lcrumbthistle"
 
 bench-lib: # prove and build the archive of the crate bench, which the Rust tests link too
 	@mkdir -p target
-	@rt staticlib bench > target/bench-lib.log 2>&1 || { tail -n 40 target/bench-lib.log; exit 1; }
+	@cd crates/bench && rt lib > ../../target/bench-lib.log 2>&1 || { tail -n 40 ../../target/bench-lib.log; exit 1; }
 
 # both archives for the bench, with every function at a multiple of 64 bytes, as those of the Rust implementation are
 ALIGNED = target/aligned
@@ -32,7 +33,7 @@ ALIGNED = target/aligned
 bench-aligned: lib bench-lib
 	@mkdir -p "$(ALIGNED)"
 	@for name in capi bench; do \
-	    objcopy -w --set-section-alignment '.text.*=64' "target/staticlib/lib$$name.a" "$(ALIGNED)/lib$$name.a" || exit 1; \
+	    objcopy -w --set-section-alignment '.text.*=64' "crates/$$name/out/lib$$name.a" "$(ALIGNED)/lib$$name.a" || exit 1; \
 	done
 
 BENCH = CRUMBTHISTLE_LIB="$(CURDIR)/$(ALIGNED)" cargo run --release --offline --quiet --bin bench --
