@@ -1,6 +1,7 @@
 // What `make bench` times beside the calls for C: loops over bytes, with thresholds that only the caller knows and with the fixed ones, and
 // the block reader in one program with them. So byte reading has several callers here.
 #![tactic(auto)]
+
 ghost use Rattle.std.specs.Prelude.{◌≡◌, length};
 ghost use Rattle.pulse.specs.Pulse.{fixed, classes};
 ghost use Rattle.block.specs.Reading.{read_block};

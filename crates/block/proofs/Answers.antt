@@ -24,7 +24,6 @@ use Rattle.pulse.specs.Pulse.{class_of, classes}
 use Rattle.start.specs.declared.Found.{Found}
 use Rattle.start.specs.declared.Copies.{Copies}
 use Rattle.start.specs.declared.CopiesAnswer.{CopiesAnswer}
-use Rattle.start.specs.declared.CopiesAnswer.TheVariants as CopiesAnswer
 use Rattle.start.specs.declared.Found.TheVariants.{At, Nothing}
 use Rattle.start.specs.Start.{found_at, find_start, found_answer}
 use Rattle.start.specs.Copies.{copies_answer, copy_two, end_of, locate_copies}

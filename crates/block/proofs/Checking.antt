@@ -19,7 +19,7 @@ use Rattle.block.specs.declared.rules.Check.TheVariants.{Sound, LostAt, WrongSum
 use Rattle.block.specs.Reading.{FromOne, FromTwo, no_value, place_value, place_at, is_lost, sum_holds}
 use Rattle.block.specs.Looking.{is_from_two}
 use Rattle.block.specs.private.Flags.{flag_at, raised, group_of}
-use Rattle.block.specs.private.Checks.{check_of, is_repaired, repairs, Flagged, Checked}
+use Rattle.block.specs.private.Checks.{check_of, is_repaired, repairs, Checked}
 use Rattle.block.proofs.FlagLaws.{length-raised, raised-down, raised_keeps}
 use Rattle.block.proofs.Summing.{Summed, summed-begun, summed-next, summed-holds, summed-fails}
 

@@ -5,6 +5,7 @@
 //
 // The checksum is $00 XORed with each payload byte. A copy has n + 10 byte places of twenty pulses each.
 #![tactic(auto)]
+
 mod flags;
 mod looking;
 mod rules;

@@ -1,5 +1,5 @@
 -- Laws of pairs: where they stand on a strip.
-use Rattle.std.proofs.Common.{◌≡◌, ℕ, zero, ◌+◌, ◌*◌, ◌<◌, ◌≤◌, Bool, true, false, cond, List, length, get_or, drop, sym, refl, ap, ◌∙◌, ap₂, add_assoc, arith, lit<, get_or-drop, get_or-take}
+use Rattle.std.proofs.Common.{◌≡◌, ℕ, ◌+◌, ◌*◌, ◌<◌, ◌≤◌, Bool, true, false, cond, List, length, get_or, drop, sym, refl, ap, ◌∙◌, ap₂, add_assoc, arith, lit<, get_or-drop, get_or-take}
 use mir.Val.{bool_byte}
 use lib.ListN.{get_or-eq_default}
 use Rattle.pulse.specs.declared.Thresholds.{Thresholds}

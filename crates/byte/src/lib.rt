@@ -5,6 +5,7 @@
 //          marker   bit 0   1     2     3     4     5     6     7    parity
 //            L M    each bit: 0 is S M, 1 is M S
 #![tactic(auto)]
+
 mod decoder;
 mod write;
 

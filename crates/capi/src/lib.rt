@@ -1,6 +1,7 @@
 // The C interface: the library's calls with plain structs for their answers, as `include/crumbthistle.h` declares them. A slice is a
 // pointer and a length in C. Every answer but that of reading a byte begins with its refusal.
 #![tactic(auto)]
+
 ghost use Rattle.std.specs.Prelude.{◌≡◌, [], ◌∷◌, length};
 ghost use Rattle.refusal.specs.Refusal.{why_of};
 ghost use Rattle.refusal.specs.Outcome.{mapped};

@@ -2,11 +2,9 @@
 use Prim.Native.Nat.{ℕ, zero, suc, ◌+◌, ◌-◌, ◌*◌, ◌/◌, ◌%◌, ◌^◌, ◌≤◌, ◌<◌}
 use native.Mathlib.Omega.{arith}
 use mathlib.Core.Path.{◌≡◌, refl, sym, ◌∙◌}
-use mathlib.Core.Logic.{◌⊎◌, inl, inr}
 use mathlib.Core.Bool.{Bool, true, false, cond, not, ◌&&◌, ◌||◌}
 use mathlib.Core.List.{List}
 use borrow.Author.Tests.{eq-eqb, ne_eqb, eqb-true, leb-true, le-ltb, lt-leb, ltb-false, not-false}
-use denote.Enum.Declared.{tag_of}
 use lib.Count.{ones}
 use lib.Dec.{eqb, leb, ltb}
 use lib.ListN.{length, get_or, set}
@@ -30,11 +28,10 @@ use Rattle.byte.specs.Damage.{differ}
 use Rattle.start.specs.Copies.{end_of}
 use Rattle.byte.specs.declared.ByteRead.TheVariants.{Good}
 use Rattle.block.specs.declared.Extent.{Extent}
-use Rattle.block.specs.Block.{outside}
+use Rattle.deck.specs.Limit.{outside}
 use Rattle.block.specs.declared.PlaceRead.{PlaceRead}
 use Rattle.block.specs.declared.PlaceRead.TheVariants.{One, Two, Neither}
 use Rattle.block.specs.Looking.{place_read}
-use Rattle.block.specs.contracts.PlaceRead.{the_type}
 use Rattle.deck.specs.declared.Deck.{Deck}
 use Rattle.deck.specs.declared.Checks.{Checks}
 use Rattle.deck.specs.Lead.{lead, ends_with, longest_end, seek}
@@ -231,11 +228,11 @@ module _ (n work out : ℕ) {d : Deck} where
   unfolding begin_deck
   begin-size e q = rw (e, q)
 
-  pub begin-room : outside 65534 n ≡ false → {room : Bool} → room ≡ fits n work out → not room ≡ true → d ≡ not_begun 2 → d ≡ begin_deck n work out
+  pub begin-room : outside 65534 n ≡ false → {room : Bool} → room ≡ fits n work out → room ≡ false → d ≡ not_begun 2 → d ≡ begin_deck n work out
   unfolding begin_deck
   begin-room e r t q = rw (e, ← r, t, q)
 
-  pub begin-seeking : outside 65534 n ≡ false → {room : Bool} → room ≡ fits n work out → not room ≡ false → d ≡ deck_of n 0 (Seeking 0) → d ≡ begin_deck n work out
+  pub begin-seeking : outside 65534 n ≡ false → {room : Bool} → room ≡ fits n work out → room ≡ true → d ≡ deck_of n 0 (Seeking 0) → d ≡ begin_deck n work out
   unfolding begin_deck
   begin-seeking e r t q = rw (e, ← r, t, q)
 
@@ -271,11 +268,11 @@ module _ (d : Deck) (work out : List ℕ) where
   end-closed e t = rw (← e, t)
 
   module _ {t : Bool} (e : t ≡ is_closed d) (h : t ≡ false) {room : Bool} (f : room ≡ fits d.n (length work) (length out)) where
-    pub end-room : not room ≡ true → lent (deck_refusing 2 d) work out ≡ take_end (lent d work out)
+    pub end-room : room ≡ false → lent (deck_refusing 2 d) work out ≡ take_end (lent d work out)
     unfolding take_end if_lent
     end-room g = rw (← e, h, ← f, g)
 
-    pub end-ends : not room ≡ false → {r : Deck} → r ≡ deck_of d.n d.taken (ended_in (phase_of d)) → lent r work out ≡ take_end (lent d work out)
+    pub end-ends : room ≡ true → {r : Deck} → r ≡ deck_of d.n d.taken (ended_in (phase_of d)) → lent r work out ≡ take_end (lent d work out)
     unfolding take_end if_lent
     end-ends g q = rw (← e, h, ← f, g, q)
 
@@ -315,9 +312,7 @@ module _ (n : ℕ) (work out : List ℕ) {answer : ℕ} where
 pub mend-two : (work : List ℕ) (i v : ℕ) {r : PlaceRead} → r ≡ Two v → {work' : List ℕ} → work' ≡ put_byte work i (Good v) → work' ≡ mended work i (place_read r)
 mend-two work i v e q = rw (e, q)
 
--- by the variant's number, which is not that of `Two`
-pub mend-none : (work : List ℕ) (i : ℕ) (r : PlaceRead) → (tag_of the_type r ≡ 0) ⊎ (tag_of the_type r ≡ 2) → work ≡ mended work i (place_read r)
+pub mend-none : (work : List ℕ) (i : ℕ) (r : PlaceRead) → ((v : ℕ) → r ≡ Two v → ⊥) → work ≡ mended work i (place_read r)
 mend-none work i (One v) h = refl
-mend-none work i (Two v) (inl e) = absurd (let z : ◌≡◌ {A = ℕ} 1 0 = e in omega arith)
-mend-none work i (Two v) (inr e) = absurd (let z : ◌≡◌ {A = ℕ} 1 2 = e in omega arith)
+mend-none work i (Two v) h = absurd (h v refl)
 mend-none work i (Neither causes) h = refl

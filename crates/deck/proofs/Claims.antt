@@ -23,12 +23,13 @@ use Rattle.start.specs.Start.{start_of, start_at, find_start}
 use Rattle.start.specs.Copies.{end_of}
 use Rattle.start.proofs.CopiesLaws.{locate_copies-within}
 use Rattle.block.specs.declared.Extent.{Extent}
-use Rattle.block.specs.Block.{outside, wrong_size, wrong_leader, block_length, block_pulses}
-use Rattle.block.specs.Reading.{BlockRead, extent_of, payload_of, block_at, read_at, read_from, read_up_to, read_block}
+use Rattle.block.specs.Block.{wrong_size, wrong_leader, block_length, block_pulses}
+use Rattle.block.specs.Reading.{BlockRead, extent_of, payload_of, block_at, read_at, read_from, read_block}
 use Rattle.block.specs.Damage.{Damaged}
 use Rattle.block.proofs.BlockLaws.{wrong_size-within, wrong_leader-within, length-block, length-block_pulses}
 use Rattle.block.proofs.ReadingLaws.{read_at-accepted}
 use Rattle.block.proofs.DamageLaws.{read_from-damaged}
+use Rattle.deck.specs.Limit.{outside, read_up_to}
 use Rattle.deck.specs.declared.Deck.{Deck}
 use Rattle.deck.specs.Work.{fits}
 use Rattle.deck.specs.Step.{Phase, Seeking, InOne, Between, InTwo, Told, Standing, standing}
@@ -262,6 +263,7 @@ unfolding read_block
 reads = record {
   rule = reads-rule;
   strip = λ cs room n e. (let w = wrong_size-within n e in rw (e, size-right n (omega (arith, w.high)) e));
+  limit = λ cs room from n. refl;
 }
 
 -- ---- Damage

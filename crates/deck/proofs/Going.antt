@@ -4,9 +4,9 @@ use native.Mathlib.Decide.{dec_lt}
 use native.Mathlib.Omega.{arith}
 use mathlib.Core.Path.{◌≡◌, refl, sym, ap, ◌∙◌}
 use mathlib.Core.Logic.{inl, inr}
-use mathlib.Core.Bool.{Bool, true, false, not, ◌&&◌}
+use mathlib.Core.Bool.{Bool, true, false, ◌&&◌}
 use mathlib.Core.List.{List, [], ◌∷◌, ◌++◌}
-use borrow.Author.Tests.{ne_eqb, leb-true, not-true, not-false}
+use borrow.Author.Tests.{ne_eqb, leb-true}
 use lib.Dec.{leb, lit<}
 use lib.ListN.{length, drop, get_or, length-drop, length-take, length-map, get_or-map, take-append-drop}
 use lib.Seq.{drop-cons, drop-drop, drop-length}
@@ -47,26 +47,26 @@ module _ (d : Deck) (work out : List ℕ) where
     take-many cs l = sym (run-many (lent d work out) cs (sym e ∙ h) l)
 
     module _ {r : Bool} (f : r ≡ fits d.n (length work) (length out)) where
-      pub take_short : (cs : List Class) → d.taken + length cs ≤ 4294967295 → not r ≡ true → refusing 2 (lent d work out) ≡ take_run (lent d work out) cs
-      take_short cs l n = sym (run_short (lent d work out) cs (sym e ∙ h) l (sym f ∙ not-true r n))
+      pub take_short : (cs : List Class) → d.taken + length cs ≤ 4294967295 → r ≡ false → refusing 2 (lent d work out) ≡ take_run (lent d work out) cs
+      take_short cs l n = sym (run_short (lent d work out) cs (sym e ∙ h) l (sym f ∙ n))
 
-      pub take_steps : (cs : List Class) {l : Lent} → d.taken + length cs ≤ 4294967295 → not r ≡ false
+      pub take_steps : (cs : List Class) {l : Lent} → d.taken + length cs ≤ 4294967295 → r ≡ true
           → l ≡ steps_lent (refusing 0 (lent d work out)) cs → l ≡ take_run (lent d work out) cs
-      take_steps cs l n s = s ∙ sym (run-steps (lent d work out) cs (sym e ∙ h) l (sym f ∙ not-false r n))
+      take_steps cs l n s = s ∙ sym (run-steps (lent d work out) cs (sym e ∙ h) l (sym f ∙ n))
 
-      pub take-ready : d.taken < 4294967295 → not r ≡ false → Ready d (length work) (length out)
+      pub take-ready : d.taken < 4294967295 → r ≡ true → Ready d (length work) (length out)
       take-ready l n =
           let o = closed-open d (sym e ∙ h) in
           let early = o.early in
           record {
             sound = sane-sound d o.sane;
             going = ne_eqb d.phase 4 (λ z. omega arith);
-            room = sym f ∙ not-false r n;
+            room = sym f ∙ n;
             few = l;
           }
 
       -- one pulse, whatever the last call said
-      pub take-one : (c : Class) {c' : Class} {l : Lent} → d.taken < 4294967295 → not r ≡ false → c' ≡ c → l ≡ step_lent (lent d work out) c'
+      pub take-one : (c : Class) {c' : Class} {l : Lent} → d.taken < 4294967295 → r ≡ true → c' ≡ c → l ≡ step_lent (lent d work out) c'
           → l ≡ take_run (lent d work out) (c ∷ [])
       unfolding steps_lent step_lent phase_of
       take-one c k n q s =
@@ -102,7 +102,7 @@ pub record Running (pulses : List ℕ) (d₀ : Deck) (work₀ out₀ : List ℕ)
   pub few : d.taken + (length pulses - i) ≤ 4294967295
 
 pub running-begun : (pulses : List ℕ) (d : Deck) (work out : List ℕ) {t r : Bool} → t ≡ is_closed d → t ≡ false
-    → r ≡ fits d.n (length work) (length out) → not r ≡ false → d.taken + length pulses ≤ 4294967295
+    → r ≡ fits d.n (length work) (length out) → r ≡ true → d.taken + length pulses ≤ 4294967295
     → Running pulses (deck_refusing 0 d) work out (deck_refusing 0 d) work out 0
 running-begun pulses d work out {t = t} {r = r} e h f n l =
     let closed = sym e ∙ h in
@@ -111,7 +111,7 @@ running-begun pulses d work out {t = t} {r = r} e h f n l =
       within = omega arith;
       whole = refl;
       sound = refusing-sound (lent d work out) 0 closed (omega arith);
-      room = roomy d.n (length work) (length out) (closed-open d closed).sane.size (sym f ∙ not-false r n);
+      room = roomy d.n (length work) (length out) (closed-open d closed).sane.size (sym f ∙ n);
       working = refl;
       output = refl;
       few = omega arith;

@@ -9,7 +9,7 @@ use lib.Dec.{eqb, lit≤}
 use lib.ListN.{length}
 use Rattle.refusal.specs.declared.Reason.TheVariants.{WrongSize, NoRoom}
 use Rattle.pulse.specs.declared.Class.{Class}
-use Rattle.block.specs.Block.{outside}
+use Rattle.deck.specs.Limit.{outside}
 use Rattle.deck.specs.Work.{fits}
 use Rattle.deck.specs.Calls.{phase_of, is_sound, is_closed, Lent, deck_refusing, refusing, begin_deck, take_run, take_end, said_by}
 use Rattle.deck.proofs.SoundLaws.{sane-sound, closed-open, open-refusing}

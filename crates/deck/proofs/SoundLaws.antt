@@ -9,7 +9,7 @@ use lib.Dec.{eqb, leb}
 use Rattle.lists.proofs.BoolLaws.{and-true, or-false, cond-second}
 use Rattle.refusal.specs.Outcome.{Outcome}
 use Rattle.block.specs.declared.Extent.{Extent}
-use Rattle.block.specs.Block.{outside}
+use Rattle.deck.specs.Limit.{outside}
 use Rattle.deck.specs.declared.Deck.{Deck}
 use Rattle.deck.specs.Step.{Phase, Seeking, InOne, Between, InTwo, Told}
 use Rattle.deck.specs.Calls.{deck_of, phase_of, sound_in, is_sound, is_closed, deck_refusing, Answered, said_in, said_by}

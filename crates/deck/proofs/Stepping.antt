@@ -18,7 +18,7 @@ use Rattle.pulse.specs.declared.Class.TheVariants.{Noise}
 use Rattle.byte.specs.declared.ByteRead.{ByteRead}
 use Rattle.byte.specs.declared.ByteRead.TheVariants.{Good, Bad}
 use Rattle.byte.specs.Byte.{is_odd, byte_of}
-use Rattle.block.specs.Block.{outside}
+use Rattle.deck.specs.Limit.{outside}
 use Rattle.block.specs.Reading.{Place, place_of, place_value}
 use Rattle.deck.specs.declared.Frame.{Frame}
 use Rattle.deck.specs.declared.Checks.{Checks}

@@ -69,7 +69,7 @@ settled i one two = cond (ltb i 9) one (kept one two)
 module _ (w : List ℕ) (i : ℕ) (one two : ByteRead) where
   pub length-mend : length (mend_byte w i one two) ≡ length w
   unfolding mend_byte
-  length-mend = go (ltb i 9) (place_of one two)
+  length-mend = go _ _
     where
       go : (t : Bool) (p : Place) → length (cond t w (mended w i p)) ≡ length w
       go true p = refl
@@ -79,7 +79,7 @@ module _ (w : List ℕ) (i : ℕ) (one two : ByteRead) where
 
   pub mend-away : (x : ℕ) → (x ≡ 2 * i → ⊥) → (x ≡ 2 * i + 1 → ⊥) → get_or (mend_byte w i one two) x 0 ≡ get_or w x 0
   unfolding mend_byte
-  mend-away x a b = go (ltb i 9) (place_of one two)
+  mend-away x a b = go _ _
     where
       go : (t : Bool) (p : Place) → get_or (cond t w (mended w i p)) x 0 ≡ get_or w x 0
       go true p = refl

@@ -1,19 +1,18 @@
 -- The calls of the reader by pulses: the numbers of its state, which states are sound, what each call leaves and says.
 use Rattle.std.specs.Prelude.{ℕ, ◌+◌, Bool, cond, not, ◌&&◌, ◌||◌, List, [], ◌∷◌, eqb, leb, ltb, length}
-use Rattle.refusal.specs.declared.Reason.{Reason}
 use Rattle.refusal.specs.declared.Reason.TheVariants.{WrongSize, NoRoom, NoStart, CutShort, WrongCountdown, LostByte, WrongChecksum}
 use Rattle.refusal.specs.Refusal.{Why, refusal_at, why_of}
 use Rattle.refusal.specs.Outcome.{Outcome, accepted, refuse}
 use Rattle.pulse.specs.declared.Class.{Class}
 use Rattle.start.specs.Copies.{end_of}
 use Rattle.block.specs.declared.Extent.{Extent}
-use Rattle.block.specs.Block.{outside}
 use Rattle.block.specs.Reading.{block_answer}
 use Rattle.deck.specs.declared.Frame.{Frame}
 use Rattle.deck.specs.declared.Checks.{Checks}
 use Rattle.deck.specs.declared.Deck.{Deck}
 use Rattle.deck.specs.declared.Said.{Said}
 use Rattle.deck.specs.declared.Said.TheVariants.{Nothing, Answer, Refused}
+use Rattle.deck.specs.Limit.{outside}
 use Rattle.deck.specs.Frame.{frame_of}
 use Rattle.deck.specs.Judge.{checks_of}
 use Rattle.deck.specs.Work.{fits}

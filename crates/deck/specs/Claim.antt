@@ -15,10 +15,11 @@ use Rattle.byte.specs.Byte.{byte_at}
 use Rattle.start.specs.Start.{start_of}
 use Rattle.start.specs.Copies.{byte_place, copy_two, end_of}
 use Rattle.block.specs.declared.Extent.{Extent}
-use Rattle.block.specs.Block.{outside, wrong_size, wrong_leader}
-use Rattle.block.specs.Reading.{BlockRead, extent_of, payload_of, read_copies, read_up_to, read_block}
+use Rattle.block.specs.Block.{wrong_size, wrong_leader}
+use Rattle.block.specs.Reading.{BlockRead, extent_of, payload_of, read_copies, read_block}
 use Rattle.block.specs.Damage.{Damaged}
 use Rattle.deck.specs.declared.Deck.{Deck}
+use Rattle.deck.specs.Limit.{outside, read_up_to}
 use Rattle.deck.specs.Work.{fits, value_byte, cause_byte}
 use Rattle.deck.specs.Calls.{Lent, lent, refusing, is_sound, is_closed, begin_deck, take_run, take_end, Saying, Silent, Answered, Denied, said_by}
 
@@ -115,6 +116,8 @@ pub record Reads : Type 0 where
       (said_by l.deck ≡ Answered (mapped extent_of o)) × (l.out ≡ put_at out 0 (puts (mapped payload_of o))))
   -- Where a block may have n bytes for it, this is the strip reader.
   pub strip : (cs : List Class) (room n : ℕ) → wrong_size n ≡ false → read_up_to 65534 cs room 0 n ≡ read_block cs room 0 n
+  -- With the limit 8,192 the rule is the strip reader's, from any place on.
+  pub limit : (cs : List Class) (room from n : ℕ) → read_up_to 8192 cs room from n ≡ read_block cs room from n
 
 -- Before that, after any pulses, cut in any way: what is said, the output, and the working buffer.
 pub record Tells : Type 0 where

@@ -1,3 +1,4 @@
+pub mod Limit
 pub mod Frame
 pub mod Lead
 pub mod Work

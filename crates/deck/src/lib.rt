@@ -7,6 +7,7 @@
 //
 // At payload and checksum places a good byte of copy two replaces a bad one.
 #![tactic(auto)]
+
 mod answers;
 mod decode;
 mod judge;

@@ -2,6 +2,7 @@
 //
 //   block 0: the header, 192 bytes      block 1: the data, end minus start bytes
 #![tactic(auto)]
+
 ghost use Rattle.std.specs.Prelude.{◌≡◌, false, length};
 ghost use Rattle.refusal.specs.Promise.{put_answer, Written};
 ghost use Rattle.pulse.specs.Pulse.{fixed, classes};

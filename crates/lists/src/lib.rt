@@ -1,5 +1,6 @@
 // Definitions and laws on lists and numbers that every layer uses (specs/, proofs/), and numbers as bytes, low first.
 #![tactic(auto)]
+
 ghost use Rattle.std.specs.Prelude.{◌<◌, ◌≡◌, take, get_or};
 ghost use Rattle.lists.specs.Text.{low_first, from_low};
 

@@ -4,6 +4,7 @@
 //   class       noise       short        medium        long       noise
 //   written as     -         360          520          688          -
 #![tactic(auto)]
+
 ghost use Rattle.std.specs.Prelude.{◌≡◌, cond};
 ghost use Rattle.pulse.specs.Pulse.{class_of, fixed, written_as, same};
 ghost use Rattle.pulse.specs.Units.{byte_cycles, cycles_of, units_of};

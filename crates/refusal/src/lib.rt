@@ -1,5 +1,6 @@
 // Refusals. A call that refuses its input tells the reason, the block and the place; it alters nothing in a lent buffer.
 #![tactic(auto)]
+
 ghost use Rattle.std.specs.Prelude.{◌≡◌};
 ghost use Rattle.refusal.specs.Refusal.{number_of, causes_of, or_none, refusal_at, in_block};
 

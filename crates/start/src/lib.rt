@@ -3,6 +3,7 @@
 //   16 short pulses | copy one                                     | one L and 60 S | copy two              |
 //                   p: $89 .. $81, n payload bytes, the checksum                      as long                end
 #![tactic(auto)]
+
 ghost use Rattle.std.specs.Prelude.{◌+◌, ◌-◌, ◌≤◌, ◌≡◌, ltb, length};
 ghost use Rattle.lists.specs.Places.{first_from};
 ghost use Rattle.pulse.specs.Pulse.{classes};

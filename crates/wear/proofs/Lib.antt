@@ -1,4 +1,3 @@
-mod Held
 mod Steps
 mod ClassLaws
 pub mod WalkLaws

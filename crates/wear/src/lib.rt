@@ -1,5 +1,6 @@
 // How worn the strips of a collection are. A walk goes over the blocks of a strip, one after the other; the report adds what it finds to totals.
 #![tactic(auto)]
+
 mod count;
 mod walk;
 

@@ -1,7 +1,6 @@
 -- `block::copies_at` meets its contract.
 use mathlib.Core.Path.{sym, ◌∙◌}
 use Rattle.block.specs.Looking.{copies_at}
-use borrow.Author.Rules.{rules}
 use Rattle.block.proofs.copies_at.Goals as goal
 
 pub returns-then-wrong_size : goal.returns-then-wrong_size

@@ -1,7 +1,6 @@
 -- `block::look_at` meets its contract: refusals 1 and 4, and else what the copies come to.
 use Rattle.pulse.specs.Pulse.{fixed}
 use Rattle.block.proofs.Looks.{look-refused, look-there, look-accepted}
-use borrow.Author.Rules.{rules}
 use Rattle.block.proofs.look_at.Goals as goal
 
 pub look_copies-requires : goal.look_copies-requires

@@ -1,8 +1,6 @@
 -- `block::measure_block` meets its contract: refusals 1 and 14, and else the number of pulses, which fits.
 use native.Mathlib.Omega.{arith}
 use mathlib.Core.Path.{sym, ◌∙◌}
-use borrow.Author.Rules.{rules}
-use Rattle.block.proofs.BlockLaws.{Within, wrong_size-within, wrong_leader-within}
 use Rattle.block.proofs.Writing.{measure_block-wrong_size, measure_block-wrong_leader, measure_block-count}
 use Rattle.block.proofs.measure_block.Goals as goal
 

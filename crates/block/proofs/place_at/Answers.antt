@@ -2,7 +2,6 @@
 use mathlib.Core.Path.{sym}
 use Rattle.pulse.specs.Pulse.{fixed, classes}
 use Rattle.block.proofs.Looks.{place-above, place-refused, place-there, place-accepted}
-use borrow.Author.Rules.{rules}
 use Rattle.block.proofs.place_at.Goals as goal
 
 pub returns-then-n-i : goal.returns-then-n-i

@@ -1,10 +1,7 @@
 -- `block::read_block` meets its contract: refusals 1, 2 and 3, and else what is read at the start.
-use native.Mathlib.Omega.{arith}
 use mathlib.Core.Path.{sym, ◌∙◌}
 use Rattle.pulse.specs.Pulse.{fixed, classes}
-use Rattle.block.proofs.BlockLaws.{wrong_size-within}
 use Rattle.block.proofs.Answers.{read_block-wrong_size, read_block-no_room, read_block-NoStart, read_block-found}
-use borrow.Author.Rules.{rules}
 use Rattle.block.proofs.read_block.Goals as goal
 
 pub returns-then-wrong_size : goal.returns-then-wrong_size

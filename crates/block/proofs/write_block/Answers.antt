@@ -1,7 +1,6 @@
 -- `block::write_block` meets its contract: refused as it was measured, or for its room, and else the whole block.
 use native.Mathlib.Omega.{arith}
 use mathlib.Core.Path.{sym, ap, ◌∙◌}
-use borrow.Author.Rules.{rules}
 use lib.ListN.{length}
 use Rattle.refusal.specs.Promise.{put_answer}
 use Rattle.block.proofs.BlockLaws.{measure_block-accepted}

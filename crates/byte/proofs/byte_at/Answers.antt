@@ -1,5 +1,5 @@
 -- `byte::byte_at` meets its contract: past the end, with fewer than twenty pulses left, with a good byte, with a bad one.
-use Rattle.std.proofs.Common.{sym, ap, ◌∙◌, arith, rules}
+use Rattle.std.proofs.Common.{sym, ap, ◌∙◌, arith}
 use Rattle.byte.specs.declared.ByteRead.TheVariants.{Bad}
 use Rattle.byte.proofs.CauseLaws.{past-there, cut-there, value_there, none-there}
 use Rattle.byte.proofs.byte_at.Goals as goal

@@ -1,5 +1,4 @@
 -- `byte::code_of` meets its contract.
-use Rattle.std.proofs.Common.{rules}
 use Rattle.byte.specs.private.Frame.{code_of}
 use Rattle.byte.proofs.code_of.Goals as goal
 

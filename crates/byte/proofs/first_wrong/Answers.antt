@@ -1,7 +1,6 @@
 -- `byte::first_wrong` meets its contract. The invariant: the search from pair i on finds what the whole search finds.
-use Rattle.std.proofs.Common.{◌≡◌, ◌-◌, ◌≤◌, sym, ap, ◌∙◌, arith, rules}
-use Rattle.lists.specs.Places.{first_from}
-use Rattle.lists.proofs.LoopLaws.{first_left, first-here, first-passed, first-over}
+use Rattle.std.proofs.Common.{sym, ap, ◌∙◌, arith}
+use Rattle.lists.proofs.LoopLaws.{first-here, first-passed, first-over}
 use Rattle.pulse.specs.Pulse.{classes}
 use Rattle.byte.specs.Byte.{wrong_pair, or_ten, first_wrong}
 use Rattle.byte.proofs.first_wrong.Goals as goal

@@ -1,5 +1,5 @@
 -- `byte::is_wrong` meets its contract: a pair that is not whole, the marker's, a bit's.
-use Rattle.std.proofs.Common.{arith, rules}
+use Rattle.std.proofs.Common.{arith}
 use lib.ListN.{length-map}
 use Rattle.pulse.specs.Pulse.{class_of, classes}
 use Rattle.byte.proofs.CauseLaws.{wrong-past, wrong-marker, wrong-bit}

@@ -1,5 +1,5 @@
 -- `byte::pair_fits` meets its contract, case by case: past the pairs, the marker, a 0, a 1.
-use Rattle.std.proofs.Common.{arith, rules}
+use Rattle.std.proofs.Common.{arith}
 use Rattle.byte.proofs.Matching.{pair_fits-past, pair_fits-marker, pair_fits-zero, pair_fits-one}
 use Rattle.byte.proofs.pair_fits.Goals as goal
 

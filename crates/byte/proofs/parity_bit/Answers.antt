@@ -1,5 +1,5 @@
 -- `byte::parity_bit` meets its contract: code and definition go by the same test.
-use Rattle.std.proofs.Common.{sym, ◌∙◌, rules}
+use Rattle.std.proofs.Common.{sym, ◌∙◌}
 use Rattle.byte.specs.Byte.{parity_bit}
 use Rattle.byte.proofs.parity_bit.Goals as goal
 

@@ -1,5 +1,5 @@
 -- `byte::read_frame` meets its contract: the classes by distances are those by the thresholds.
-use Rattle.std.proofs.Common.{map, ap, ◌∙◌, arith, rules}
+use Rattle.std.proofs.Common.{map, ap, ◌∙◌, arith}
 use Rattle.byte.specs.declared.decoder.Bounds.{Bounds}
 use Rattle.byte.specs.Byte.{read_frame}
 use Rattle.byte.specs.private.Frame.{class_in}

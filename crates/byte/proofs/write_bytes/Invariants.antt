@@ -1,8 +1,6 @@
 -- `byte::write_bytes` meets its contract. The invariant: the bytes left, put after those that are there, give them all.
-use Rattle.std.proofs.Common.{◌-◌, ◌≤◌, length, refl, arith, rules}
-use Rattle.byte.specs.Byte.{bits, coded}
-use Rattle.byte.specs.private.Quarters.{quarters_from}
-use Rattle.byte.proofs.Stores.{BytesPut, BytesPut-next, write_bytes-whole, write_bytes-no_room}
+use Rattle.std.proofs.Common.{◌-◌, ◌≤◌, length}
+use Rattle.byte.proofs.Stores.{BytesPut}
 use Rattle.byte.proofs.write_bytes.Given as goal
 
 abbrev pub invariant-loop-i : goal.invariant-loop-i

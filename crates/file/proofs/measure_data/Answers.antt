@@ -1,8 +1,6 @@
 -- `file::measure_data` meets its contract: refusals 8 and 9, and else end minus start.
-use native.Mathlib.Omega.{arith}
 use mathlib.Core.Path.{sym, ◌∙◌}
-use borrow.Author.Rules.{rules}
-use Rattle.file.proofs.FileLaws.{wrong_addresses-within, measure_data-wrong_type, measure_data-wrong_addresses, measure_data-right}
+use Rattle.file.proofs.FileLaws.{measure_data-wrong_type, measure_data-wrong_addresses, measure_data-right}
 use Rattle.file.proofs.measure_data.Goals as goal
 
 pub returns-then-not_program : goal.returns-then-not_program

@@ -1,5 +1,4 @@
 -- `file::read_data` meets its contract: a header that unpacking refuses, and else what its fields come to.
-use borrow.Author.Rules.{rules}
 use Rattle.pulse.specs.Pulse.{fixed, classes}
 use Rattle.file.proofs.ReaderLaws.{by-rules}
 use Rattle.file.proofs.Loading.{read_data-wrong_type, read_data-fields}

@@ -1,5 +1,4 @@
 -- `file::read_file` meets its contract: a header that is refused, and else what follows the header that was read.
-use borrow.Author.Rules.{rules}
 use Rattle.pulse.specs.Pulse.{fixed, classes}
 use Rattle.file.proofs.ReaderLaws.{by-rules}
 use Rattle.file.proofs.Loading.{read_file_by-refused, read_file_by-header}

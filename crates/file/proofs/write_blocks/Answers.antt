@@ -1,7 +1,6 @@
 -- `file::write_blocks` meets its contract: both blocks are measured first, and then written one behind the other.
 use native.Mathlib.Omega.{arith}
 use mathlib.Core.Path.{sym, ap, ◌∙◌}
-use borrow.Author.Rules.{rules}
 use lib.ListN.{length}
 use Rattle.refusal.specs.Refusal.{in_block}
 use Rattle.refusal.specs.Promise.{put_answer}

@@ -1,5 +1,4 @@
 -- `file::write_file` meets its contract: what packing the header refuses, and else what the program comes to.
-use borrow.Author.Rules.{rules}
 use Rattle.file.specs.File.{file}
 use Rattle.file.proofs.Writing.{write_file-refused, write_file-program}
 use Rattle.file.proofs.write_file.Goals as goal

@@ -1,5 +1,4 @@
 -- `file::write_program` meets its contract: refusals 8 and 9, and else what the two blocks come to.
-use borrow.Author.Rules.{rules}
 use Rattle.file.proofs.Writing.{write_program-refused, write_program-wrong_addresses, write_program-size, write_program-blocks}
 use Rattle.file.proofs.write_program.Goals as goal
 

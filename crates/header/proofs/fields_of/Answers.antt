@@ -1,5 +1,4 @@
 -- `header::fields_of` meets its contract, by what its two words are.
-use borrow.Author.Rules.{rules}
 use Rattle.header.specs.Header.{fields_of}
 use Rattle.header.proofs.fields_of.Goals as goal
 

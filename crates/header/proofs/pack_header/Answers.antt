@@ -1,6 +1,5 @@
 -- `header::pack_header` meets its contract: refusals 1, 8 and 2, and else the header, put in front.
 use mathlib.Core.Path.{sym, ◌∙◌}
-use borrow.Author.Rules.{rules}
 use Rattle.header.proofs.Packing.{pack_header-wrong_size, pack_header-wrong_type, pack_header-no_room, pack_header-whole}
 use Rattle.header.proofs.pack_header.Goals as goal
 

@@ -1,10 +1,5 @@
 -- `header::put_header` meets its contract: the type, the two addresses and the name are stored one after the other.
-use native.Mathlib.Omega.{arith}
-use borrow.Author.Rules.{rules}
-use lib.ListN.{length-set}
-use Rattle.lists.specs.Text.{low_first}
-use Rattle.header.specs.Header.{filled}
-use Rattle.header.proofs.Packing.{length-one, length_two, header-put}
+use Rattle.header.proofs.Packing.{header-put}
 use Rattle.header.proofs.put_header.Goals as goal
 
 pub returns : goal.returns

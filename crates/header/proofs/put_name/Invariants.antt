@@ -1,8 +1,6 @@
 -- `header::put_name` meets its contract. The invariant: the bytes left, put after those that are there, give the whole filled name.
 use Prim.Native.Nat.{◌-◌, ◌≤◌}
-use native.Mathlib.Omega.{arith}
-use borrow.Author.Rules.{rules}
-use Rattle.header.proofs.Packing.{NamePut, name-begun, name-next, name_done}
+use Rattle.header.proofs.Packing.{NamePut}
 use Rattle.header.proofs.put_name.Given as goal
 
 abbrev pub invariant-loop-i : goal.invariant-loop-i

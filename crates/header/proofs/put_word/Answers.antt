@@ -1,7 +1,4 @@
 -- `header::put_word` meets its contract: the low byte, then the high byte.
-use native.Mathlib.Omega.{arith}
-use borrow.Author.Rules.{rules}
-use lib.ListN.{length-set}
 use Rattle.header.proofs.Packing.{word-put}
 use Rattle.header.proofs.put_word.Goals as goal
 

@@ -1,10 +1,7 @@
 -- `header::shown_count` meets its contract. The invariant: as many are shown of the first n bytes as of all sixteen.
 use Prim.Native.Nat.{◌≤◌}
-use native.Mathlib.Omega.{arith}
-use mathlib.Core.Path.{◌≡◌, ◌∙◌}
-use borrow.Author.Rules.{rules}
+use mathlib.Core.Path.{◌≡◌}
 use Rattle.header.specs.Header.{shown_count}
-use Rattle.header.proofs.Unpacking.{shown-shorter, shown-here}
 use Rattle.header.proofs.shown_count.Given as goal
 
 abbrev pub invariant-loop-n : goal.invariant-loop-n

@@ -1,6 +1,5 @@
 -- `header::unpack_header` meets its contract: refusals 1 and 8, and else the fields.
 use mathlib.Core.Path.{sym, ◌∙◌}
-use borrow.Author.Rules.{rules}
 use Rattle.header.proofs.Unpacking.{unpack_header-wrong_size, unpack_header-wrong_type, unpack_header-accepted}
 use Rattle.header.proofs.unpack_header.Goals as goal
 

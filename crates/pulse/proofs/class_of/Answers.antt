@@ -1,5 +1,4 @@
 -- `pulse::class_of` meets its contract: each `pick` is a `cond` of `class_of`.
-use borrow.Author.Rules.{rules}
 use Rattle.pulse.specs.Pulse.{class_of}
 use Rattle.pulse.proofs.class_of.Goals as goal
 

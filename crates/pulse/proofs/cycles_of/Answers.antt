@@ -1,7 +1,6 @@
 -- `pulse::cycles_of` meets its contract: the test of the units picks the case that the test of the cycles has.
 use Prim.Native.Nat.{◌*◌, ◌^◌}
 use native.Mathlib.Omega.{arith}
-use borrow.Author.Rules.{rules}
 use borrow.Author.Tests.{lt-ltb, le-ltb}
 use Rattle.pulse.specs.Units.{cycles_of}
 use Rattle.pulse.proofs.cycles_of.Goals as goal

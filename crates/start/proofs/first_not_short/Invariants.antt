@@ -1,14 +1,10 @@
 -- `start::first_not_short` meets its contract. The invariant: the search from i on finds what the whole search finds.
 use Prim.Native.Nat.{◌-◌}
-use native.Mathlib.Omega.{arith}
-use mathlib.Core.Path.{◌≡◌, sym, ap, ◌∙◌}
-use mathlib.Core.Bool.{not}
-use borrow.Author.Rules.{rules}
+use mathlib.Core.Path.{◌≡◌}
 use lib.ListN.{length}
-use Rattle.lists.proofs.LoopLaws.{first_left, first-here, first-passed, first-over}
+use Rattle.lists.proofs.LoopLaws.{first_left}
 use Rattle.pulse.specs.Pulse.{classes}
 use Rattle.start.specs.private.Search.{not_short}
-use Rattle.start.proofs.Searching.{not-short-at}
 use Rattle.start.proofs.first_not_short.Given as goal
 
 abbrev pub invariant-loop-i : goal.invariant-loop-i

@@ -1,12 +1,8 @@
 -- `start::last_not_short` meets its contract. The invariant: the first `count` of the sixteen pulses have the last one that is not short.
-use Prim.Native.Nat.{◌+◌, ◌-◌, ◌≤◌}
-use native.Mathlib.Omega.{arith}
-use mathlib.Core.Path.{◌≡◌, sym, ap, ◌∙◌}
-use mathlib.Core.Bool.{not}
-use borrow.Author.Rules.{rules}
+use Prim.Native.Nat.{◌≤◌}
+use mathlib.Core.Path.{◌≡◌}
 use Rattle.pulse.specs.Pulse.{classes}
 use Rattle.start.specs.private.Search.{not_short, last_from}
-use Rattle.start.proofs.Searching.{last-passed, last-here, last-over, not-short-at}
 use Rattle.start.proofs.last_not_short.Given as goal
 
 abbrev pub invariant-loop-count : goal.invariant-loop-count

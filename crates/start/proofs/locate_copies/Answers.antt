@@ -1,9 +1,7 @@
 -- `start::locate_copies` meets its contract: refusal 4, and else the places, which fit.
 use Prim.Native.Nat.{◌≤◌}
-use native.Mathlib.Omega.{arith}
 use mathlib.Core.Path.{sym, ap, ◌∙◌}
 use borrow.Author.Tests.{ltb-true, ltb-false}
-use borrow.Author.Rules.{rules}
 use Rattle.refusal.specs.Outcome.{refused_with}
 use Rattle.start.specs.Copies.{end_of}
 use Rattle.start.proofs.CopiesLaws.{locate_copies-cut_short, locate_copies-within}

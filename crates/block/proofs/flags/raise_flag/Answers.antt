@@ -2,7 +2,6 @@
 use Prim.Native.Nat.{◌%◌}
 use native.Mathlib.Omega.{arith}
 use mathlib.Core.Path.{sym}
-use borrow.Author.Rules.{rules}
 use Rattle.block.specs.private.Flags.{raised}
 use Rattle.block.proofs.FlagLaws.{weight, raised-past}
 use Rattle.block.proofs.flags.raise_flag.Goals as goal

@@ -1,5 +1,4 @@
 -- `block::looking::answer_of` meets its contract.
-use borrow.Author.Rules.{rules}
 use native.Mathlib.Omega.{arith}
 use Rattle.block.proofs.looking.answer_of.Goals as goal
 

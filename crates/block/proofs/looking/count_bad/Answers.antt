@@ -1,7 +1,5 @@
 -- `block::looking::count_bad` meets its contract: the first wrong pair of a byte without a value is its cause.
-use borrow.Author.Rules.{rules}
-use native.Mathlib.Omega.{arith}
-use Rattle.block.proofs.CauseCounts.{cause-small, bad-counted, good-counted}
+use Rattle.block.proofs.CauseCounts.{cause-small, bad-counted}
 use Rattle.block.proofs.looking.count_bad.Goals as goal
 
 pub bounds-bad-cause : goal.bounds-bad-cause

@@ -3,16 +3,14 @@ use native.Mathlib.Omega.{arith}
 use Rattle.pulse.specs.Pulse.{classes}
 use Rattle.block.proofs.Answers.{check-there}
 use Rattle.block.proofs.Looks.{look-copied}
-use borrow.Author.Rules.{rules}
 use Rattle.block.proofs.looking.look_copies.Goals as goal
 
 pub answer_of-requires : goal.answer_of-requires
-answer_of-requires c =
-    (
-      omega arith,
-      omega arith,
-      check-there (classes c.args.t c.args.strip.now) c.args.copies.one c.args.copies.two c.args.n _ _ c.count_places-counted.ensures.check,
-    )
+answer_of-requires c = (
+  omega arith,
+  omega arith,
+  check-there (classes c.args.t c.args.strip.now) c.args.copies.one c.args.copies.two c.args.n _ _ c.count_places-counted.ensures.check,
+)
 
 pub returns : goal.returns
 returns c =

@@ -1,5 +1,4 @@
 -- `block::looking::place_in` meets its contract, by cases of the two frames.
-use borrow.Author.Rules.{rules}
 use Prim.Native.Nat.{◌+◌, ◌*◌}
 use native.Mathlib.Omega.{arith}
 use mathlib.Core.Path.{sym, ap, ◌∙◌}

@@ -1,5 +1,4 @@
 -- `block::rules::causes_at` meets its contract: the first wrong pair of each byte is its cause.
-use borrow.Author.Rules.{rules}
 use Prim.Native.Nat.{◌+◌, ◌*◌}
 use mathlib.Core.Path.{ap₂, ◌∙◌}
 use Rattle.pulse.specs.Pulse.{classes}

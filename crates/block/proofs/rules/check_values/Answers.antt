@@ -1,13 +1,11 @@
 -- `block::rules::check_values` meets its contract. The invariant: no place so far is lost, the sum so far, XORed with the values left, is that
 -- of all, and the count and the flags are those of the places so far.
-use Prim.Native.Nat.{◌+◌, ◌-◌}
 use native.Mathlib.Omega.{arith}
 use mathlib.Core.Path.{sym, ◌∙◌}
-use borrow.Author.Rules.{rules}
 use Rattle.pulse.specs.Pulse.{classes}
 use Rattle.block.specs.Reading.{place_at}
 use Rattle.block.proofs.SourceLaws.{source_one, source-two, source-lost}
-use Rattle.block.proofs.Checking.{Checking, checking-begun, check_values-lost, check_values-sound, check_values-wrong_sum, checking-few, checking-one, checking-two}
+use Rattle.block.proofs.Checking.{checking-begun, check_values-lost, check_values-sound, check_values-wrong_sum, checking-few, checking-one, checking-two}
 use Rattle.block.proofs.rules.check_values.Goals as goal
 use Rattle.block.proofs.rules.check_values.Goals.{in-One, in-Two}
 

@@ -1,14 +1,8 @@
 -- `block::rules::check_values` meets its contract. The invariant: no place so far is lost, the sum so far, XORed with the values left, is that
 -- of all, and the count and the flags are those of the places so far.
 use Prim.Native.Nat.{◌+◌, ◌-◌}
-use native.Mathlib.Omega.{arith}
-use mathlib.Core.Path.{sym, ◌∙◌}
-use mathlib.Core.Logic.{⊎_elim}
-use borrow.Author.Rules.{rules}
 use Rattle.pulse.specs.Pulse.{classes}
-use Rattle.block.specs.Reading.{place_at}
-use Rattle.block.proofs.SourceLaws.{source_one, source-two, source-lost}
-use Rattle.block.proofs.Checking.{Checking, checking-begun, check_values-lost, check_values-sound, check_values-wrong_sum, checking-few, checking-one, checking-two}
+use Rattle.block.proofs.Checking.{Checking}
 use Rattle.block.proofs.rules.check_values.Given as goal
 
 abbrev pub invariant-loop-i : goal.invariant-loop-i

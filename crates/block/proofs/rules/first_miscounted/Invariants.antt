@@ -1,11 +1,8 @@
 -- `block::rules::first_miscounted` meets its contract. The invariant: the search from place i on finds what the whole search finds.
 use Prim.Native.Nat.{◌-◌, ◌≤◌}
-use native.Mathlib.Omega.{arith}
-use mathlib.Core.Path.{sym, ap, ◌∙◌, ◌≡◌}
-use mathlib.Core.Bool.{not}
-use borrow.Author.Rules.{rules}
+use mathlib.Core.Path.{◌≡◌}
 use Rattle.lists.specs.Places.{first_from}
-use Rattle.lists.proofs.LoopLaws.{first-here, first-passed, first-over, first_left}
+use Rattle.lists.proofs.LoopLaws.{first_left}
 use Rattle.pulse.specs.Pulse.{classes}
 use Rattle.block.specs.Reading.{is_miscounted}
 use Rattle.block.proofs.rules.first_miscounted.Given as goal

@@ -6,7 +6,6 @@ use lib.Dec.{lit<}
 use Rattle.block.specs.private.Checks.{has_value}
 use Rattle.byte.proofs.ByteLaws.{read_frame-part}
 use Rattle.block.proofs.Countdowns.{row_at, is_counted-one, is_counted-two}
-use borrow.Author.Rules.{rules}
 use Rattle.block.proofs.rules.is_counted.Goals as goal
 
 pub returns-then-holds : goal.returns-then-holds

@@ -1,5 +1,4 @@
 -- `block::rules::lost_at` meets its contract.
-use borrow.Author.Rules.{rules}
 use Rattle.block.proofs.rules.lost_at.Goals as goal
 
 pub returns : goal.returns

@@ -1,5 +1,4 @@
 -- `block::rules::read_at` meets its contract: refusal 4, and else what the copies come to.
-use borrow.Author.Rules.{rules}
 use Rattle.block.proofs.Answers.{read_at-cut_short, copies-there, read_at-copies}
 use Rattle.block.proofs.rules.read_at.Goals as goal
 

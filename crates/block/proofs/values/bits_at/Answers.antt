@@ -1,8 +1,6 @@
 -- `block::values::bits_at` meets its contract. The invariant: the value is the number with the first i bits.
-use Prim.Native.Nat.{◌-◌, ◌≤◌}
 use native.Mathlib.Omega.{arith}
-use borrow.Author.Rules.{rules}
-use Rattle.block.proofs.ValueLaws.{BitsRead, bits-begun, bits-next, bits-done}
+use Rattle.block.proofs.ValueLaws.{bits-begun, bits-next, bits-done}
 use Rattle.block.proofs.values.bits_at.Goals as goal
 
 pub loop-i-init : goal.loop-i-init

@@ -1,11 +1,9 @@
 -- `block::values::fill_copy` meets its contract. The invariant: the values left, put after those that are there, give the whole.
-use Prim.Native.Nat.{◌+◌, ◌-◌, ◌≤◌}
+use Prim.Native.Nat.{◌+◌}
 use native.Mathlib.Omega.{arith}
 use mathlib.Core.Path.{refl, sym, ap, ◌∙◌}
 use mathlib.Core.List.{◌∷◌}
-use borrow.Author.Rules.{rules}
-use Rattle.lists.specs.Places.{tabulate}
-use Rattle.lists.proofs.LoopLaws.{put_one, put-done, table-next, table-over, Putting, table_left}
+use Rattle.lists.proofs.LoopLaws.{put_one, put-done, table-next, table-over, table_left}
 use Rattle.block.specs.private.Values.{bits_of}
 use Rattle.block.proofs.values.fill_copy.Goals as goal
 

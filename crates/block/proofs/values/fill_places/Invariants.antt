@@ -1,11 +1,7 @@
 -- `block::values::fill_places` meets its contract. The invariant: the values left, put after those that are there, give the whole.
-use Prim.Native.Nat.{◌+◌, ◌-◌, ◌≤◌}
-use native.Mathlib.Omega.{arith}
-use mathlib.Core.Path.{refl, sym, ap, ◌∙◌}
-use mathlib.Core.List.{◌∷◌}
-use borrow.Author.Rules.{rules}
+use Prim.Native.Nat.{◌-◌, ◌≤◌}
 use Rattle.lists.specs.Places.{tabulate}
-use Rattle.lists.proofs.LoopLaws.{put_one, put-done, table-next, table-over, Putting, table_left}
+use Rattle.lists.proofs.LoopLaws.{Putting, table_left}
 use Rattle.pulse.specs.Pulse.{classes}
 use Rattle.block.specs.Reading.{value_at}
 use Rattle.block.proofs.values.fill_places.Given as goal

@@ -1,9 +1,8 @@
 -- `block::values::fill_values` meets its contract: with no place repaired the values are copy one's bits, with every place copy two's, else copy
 -- one's bits are mended.
-use native.Mathlib.Omega.{arith}
 use mathlib.Core.Path.{ap, ◌∙◌}
 use lib.Seq.{sets}
-use Rattle.block.proofs.Filling.{values-whole, whole-within, bits-held, values-over}
+use Rattle.block.proofs.Filling.{values-whole, bits-held, values-over}
 use borrow.Author.Rules.{rules}
 use Rattle.block.proofs.values.fill_values.Goals as goal
 
@@ -20,7 +19,7 @@ mend_runs-requires c = record {
     c.requires.none_lost.0,
     c.requires.none_lost.2,
     bits-held c.args.t c.args.strip.now c.args.one c.args.n c.args.two c.args.repaired c.args.out.now _ c.requires.within.2 c.if-repaired-n.false c.whole_copy.ensures c.fill_copy.ensures,
-  )
+  );
 }
 
 pub returns : goal.returns

@@ -1,25 +1,21 @@
 -- `block::values::mend_runs` meets its contract. The invariant: the values left, put after those that are there, give the whole, and the places
 -- left hold copy one's bits.
-use Prim.Native.Nat.{◌-◌, ◌≤◌}
 use native.Mathlib.Omega.{arith}
-use mathlib.Core.Path.{refl, sym, ◌∙◌}
-use borrow.Author.Rules.{rules}
-use Rattle.lists.proofs.LoopLaws.{put-begun, put-done, table-begun, table-over}
+use mathlib.Core.Path.{sym, ◌∙◌}
+use Rattle.lists.proofs.LoopLaws.{put-done, table-over}
 use Rattle.pulse.specs.Pulse.{classes}
 use Rattle.block.specs.Reading.{value_at}
-use Rattle.block.specs.private.Values.{HoldsBits}
-use Rattle.block.proofs.Filling.{run_value, ValuesPut, values-next, values-there, bits-after}
+use Rattle.block.proofs.Filling.{run_value, values-next, values-there, bits-after}
 use Rattle.block.proofs.values.mend_runs.Goals as goal
 
 pub loop-i-preserved-then-flag : goal.loop-i-preserved-then-flag
-loop-i-preserved-then-flag c =
-    (
-      c.run_end-end.ensures.1,
-      values-next (classes c.args.t c.args.strip.now) c.args.one c.args.two c.args.n c.args.out.now (omega arith) c.run_end-end.ensures.1 c.loop-i.invariant.1
-          c.fill_places.ensures,
-      bits-after c.args.t c.args.strip.now c.args.one c.args.n c.loop-i.out _ (value_at (classes c.args.t c.args.strip.now) c.args.one c.args.two) (omega arith)
-          c.fill_places.ensures c.loop-i.invariant.2,
-    )
+loop-i-preserved-then-flag c = (
+  c.run_end-end.ensures.1,
+  values-next (classes c.args.t c.args.strip.now) c.args.one c.args.two c.args.n c.args.out.now (omega arith) c.run_end-end.ensures.1 c.loop-i.invariant.1
+      c.fill_places.ensures,
+  bits-after c.args.t c.args.strip.now c.args.one c.args.n c.loop-i.out _ (value_at (classes c.args.t c.args.strip.now) c.args.one c.args.two) (omega arith)
+      c.fill_places.ensures c.loop-i.invariant.2,
+)
 
 pub loop-i-preserved : goal.loop-i-preserved
 loop-i-preserved c =

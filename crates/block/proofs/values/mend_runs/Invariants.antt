@@ -1,14 +1,9 @@
 -- `block::values::mend_runs` meets its contract. The invariant: the values left, put after those that are there, give the whole, and the places
 -- left hold copy one's bits.
 use Prim.Native.Nat.{◌-◌, ◌≤◌}
-use native.Mathlib.Omega.{arith}
-use mathlib.Core.Path.{refl, sym, ◌∙◌}
-use borrow.Author.Rules.{rules}
-use Rattle.lists.proofs.LoopLaws.{put-begun, put-done, table-begun, table-over}
 use Rattle.pulse.specs.Pulse.{classes}
-use Rattle.block.specs.Reading.{value_at}
 use Rattle.block.specs.private.Values.{HoldsBits}
-use Rattle.block.proofs.Filling.{run_value, ValuesPut, values-next, values-there, bits-after}
+use Rattle.block.proofs.Filling.{ValuesPut}
 use Rattle.block.proofs.values.mend_runs.Given as goal
 
 abbrev pub invariant-loop-i : goal.invariant-loop-i

@@ -1,8 +1,5 @@
 -- `block::values::run_end` meets its contract. The invariant: the groups before the next have the flag of the first.
-use Prim.Native.Nat.{◌+◌, ◌-◌, ◌*◌, ◌<◌}
 use native.Mathlib.Omega.{arith}
-use borrow.Author.Rules.{rules}
-use Rattle.block.specs.private.Checks.{SameFlags}
 use Rattle.block.proofs.Filling.{run-begun, run-next}
 use Rattle.block.proofs.values.run_end.Goals as goal
 

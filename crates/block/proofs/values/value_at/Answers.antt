@@ -2,7 +2,6 @@
 use Prim.Native.Nat.{◌+◌, ◌*◌}
 use native.Mathlib.Omega.{arith}
 use mathlib.Core.Path.{sym, ◌∙◌}
-use borrow.Author.Rules.{rules}
 use Rattle.pulse.specs.Pulse.{classes}
 use Rattle.byte.specs.Byte.{byte_at}
 use Rattle.byte.proofs.ByteLaws.{read_frame-part}

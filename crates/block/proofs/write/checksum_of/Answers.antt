@@ -1,10 +1,6 @@
 -- `block::write::checksum_of` meets its contract. The invariant: the sum so far, XORed with the bytes left, is the checksum.
-use Prim.Native.Nat.{◌-◌, ◌≤◌}
 use native.Mathlib.Omega.{arith}
-use mathlib.Core.Path.{◌∙◌, ◌≡◌}
-use borrow.Author.Rules.{rules}
-use lib.ListN.{length, drop}
-use Rattle.block.specs.Block.{xor_from, checksum}
+use mathlib.Core.Path.{◌∙◌}
 use Rattle.block.proofs.Writing.{sum-next, sum_done}
 use Rattle.block.proofs.write.checksum_of.Goals as goal
 

@@ -1,11 +1,8 @@
 -- `block::write::checksum_of` meets its contract. The invariant: the sum so far, XORed with the bytes left, is the checksum.
 use Prim.Native.Nat.{◌-◌, ◌≤◌}
-use native.Mathlib.Omega.{arith}
-use mathlib.Core.Path.{◌∙◌, ◌≡◌}
-use borrow.Author.Rules.{rules}
+use mathlib.Core.Path.{◌≡◌}
 use lib.ListN.{length, drop}
 use Rattle.block.specs.Block.{xor_from, checksum}
-use Rattle.block.proofs.Writing.{sum-next, sum_done}
 use Rattle.block.proofs.write.checksum_of.Given as goal
 
 abbrev pub invariant-loop-i : goal.invariant-loop-i

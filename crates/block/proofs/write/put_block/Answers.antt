@@ -1,5 +1,4 @@
 -- `block::write::put_block` meets its contract: the leader, the copies and their trailers are stored one after the other.
-use borrow.Author.Rules.{rules}
 use Rattle.block.proofs.Writing.{block-put}
 use Rattle.block.proofs.write.put_block.Goals as goal
 

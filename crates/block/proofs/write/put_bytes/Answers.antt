@@ -1,5 +1,4 @@
 -- `block::write::put_bytes` meets its contract: the bytes are written into the part of the output from that place on.
-use borrow.Author.Rules.{rules}
 use Rattle.block.proofs.Writing.{put-stored}
 use Rattle.block.proofs.write.put_bytes.Goals as goal
 

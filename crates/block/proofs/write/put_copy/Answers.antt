@@ -1,9 +1,6 @@
 -- `block::write::put_copy` meets its contract: countdown, payload and checksum are stored one after the other.
-use native.Mathlib.Omega.{arith}
-use mathlib.Core.Path.{sym}
-use borrow.Author.Rules.{rules}
 use Rattle.block.proofs.Writing.{copy-put}
-use Rattle.block.proofs.Countdowns.{length-row, row-countdown}
+use Rattle.block.proofs.Countdowns.{row-countdown}
 use Rattle.block.proofs.write.put_copy.Goals as goal
 
 pub returns : goal.returns

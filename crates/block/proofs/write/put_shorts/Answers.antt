@@ -1,8 +1,6 @@
 -- `block::write::put_shorts` meets its contract. The invariant: the short pulses left, put after those that are there, give the whole.
-use Prim.Native.Nat.{◌-◌, ◌≤◌}
 use native.Mathlib.Omega.{arith}
-use borrow.Author.Rules.{rules}
-use Rattle.block.proofs.Writing.{ShortsPut, shorts-begun, shorts-next, shorts-done}
+use Rattle.block.proofs.Writing.{shorts-next}
 use Rattle.block.proofs.write.put_shorts.Goals as goal
 
 pub loop-i-preserved : goal.loop-i-preserved

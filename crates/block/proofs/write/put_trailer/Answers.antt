@@ -1,9 +1,5 @@
 -- `block::write::put_trailer` meets its contract: the long pulse is stored, and the short ones after it.
-use native.Mathlib.Omega.{arith}
-use mathlib.Core.Path.{ap, ◌∙◌}
-use borrow.Author.Rules.{rules}
-use lib.ListN.{length, length-set}
-use lib.Seq.{length-sets}
+use mathlib.Core.Path.{◌∙◌}
 use Rattle.block.proofs.Writing.{trailer-put}
 use Rattle.block.proofs.write.put_trailer.Goals as goal
 

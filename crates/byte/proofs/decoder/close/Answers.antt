@@ -1,6 +1,4 @@
 -- `byte::decoder::close` meets its contract: the test picks the case of `closed`.
-use Rattle.std.proofs.Common.{◌/◌, ◌%◌, arith, rules}
-use lib.Count.{ones-le}
 use Rattle.byte.specs.private.Frame.{closed}
 use Rattle.byte.proofs.decoder.close.Goals as goal
 

@@ -1,8 +1,8 @@
 -- `byte::decoder::decode` meets its contract.
-use Rattle.std.proofs.Common.{◌≡◌, ◌-◌, ◌≤◌, length, ◌∙◌, arith, rules}
+use Rattle.std.proofs.Common.{◌≡◌, length, ◌∙◌, arith}
 use lib.ListN.{length-map}
 use Rattle.byte.specs.private.Frame.{class_in}
-use Rattle.byte.proofs.FrameLaws.{Framing, framing-begun, framing-next, frame-other, frame-read}
+use Rattle.byte.proofs.FrameLaws.{framing-begun, framing-next, frame-other, frame-read}
 use Rattle.byte.proofs.decoder.decode.Goals as goal
 
 pub returns-then-frame-lt-PAIR_PULSES : goal.returns-then-frame-lt-PAIR_PULSES

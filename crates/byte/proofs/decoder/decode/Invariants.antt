@@ -1,8 +1,6 @@
 -- `byte::decoder::decode` meets its contract.
-use Rattle.std.proofs.Common.{◌≡◌, ◌-◌, ◌≤◌, length, ◌∙◌, arith, rules}
-use lib.ListN.{length-map}
-use Rattle.byte.specs.private.Frame.{class_in}
-use Rattle.byte.proofs.FrameLaws.{Framing, framing-begun, framing-next, frame-other, frame-read}
+use Rattle.std.proofs.Common.{◌-◌, ◌≤◌, length}
+use Rattle.byte.proofs.FrameLaws.{Framing}
 use Rattle.byte.proofs.decoder.decode.Given as goal
 
 abbrev pub invariant-loop-i : goal.invariant-loop-i

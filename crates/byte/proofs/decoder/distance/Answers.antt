@@ -1,5 +1,5 @@
 -- `byte::decoder::distance` meets its contract: the wrapped difference is the only number below 2 ^ 32 that comes round to the pulse.
-use Rattle.std.proofs.Common.{arith, rules}
+use Rattle.std.proofs.Common.{arith}
 use Rattle.byte.specs.private.Frame.{distance_of}
 use Rattle.byte.proofs.decoder.distance.Goals as goal
 

@@ -1,6 +1,5 @@
 -- `byte::decoder::is_marker` meets its contract, whatever the tests give.
 use Rattle.byte.proofs.FrameLaws.{marker-in}
-use Rattle.std.proofs.Common.{rules}
 use Rattle.byte.proofs.decoder.is_marker.Goals as goal
 
 pub returns : goal.returns

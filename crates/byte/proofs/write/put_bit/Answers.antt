@@ -1,5 +1,5 @@
 -- `byte::write::put_bit` meets its contract: the pair that it puts is the code of the bit.
-use Rattle.std.proofs.Common.{ap, ◌∙◌, rules}
+use Rattle.std.proofs.Common.{ap, ◌∙◌}
 use lib.Seq.{sets}
 use Rattle.pulse.specs.Pulse.{pulses}
 use Rattle.byte.proofs.Stores.{coded-zero, coded-one}

@@ -1,6 +1,6 @@
 -- `byte::write::put_bits` meets its contract. The invariant: the bits of what is left of the byte, put after those that are there, give all eight.
-use Rattle.std.proofs.Common.{◌-◌, ◌≤◌, arith, rules}
-use Rattle.byte.proofs.QuarterLaws.{BitsPut, BitsPut-begun, BitsPut-next, BitsPut-done}
+use Rattle.std.proofs.Common.{arith}
+use Rattle.byte.proofs.QuarterLaws.{BitsPut-next, BitsPut-done}
 use Rattle.byte.proofs.write.put_bits.Goals as goal
 
 pub loop-i-preserved : goal.loop-i-preserved

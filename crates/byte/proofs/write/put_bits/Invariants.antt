@@ -1,6 +1,6 @@
 -- `byte::write::put_bits` meets its contract. The invariant: the bits of what is left of the byte, put after those that are there, give all eight.
-use Rattle.std.proofs.Common.{◌-◌, ◌≤◌, arith, rules}
-use Rattle.byte.proofs.QuarterLaws.{BitsPut, BitsPut-begun, BitsPut-next, BitsPut-done}
+use Rattle.std.proofs.Common.{◌-◌, ◌≤◌}
+use Rattle.byte.proofs.QuarterLaws.{BitsPut}
 use Rattle.byte.proofs.write.put_bits.Given as goal
 
 abbrev pub invariant-loop-i : goal.invariant-loop-i

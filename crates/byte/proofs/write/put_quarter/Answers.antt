@@ -1,8 +1,6 @@
 -- `byte::write::put_quarter` meets its contract. The invariant: the pulses left of the table's row, put after those that are there, give them all.
-use Rattle.std.proofs.Common.{◌-◌, ◌≤◌, arith, rules}
-use Rattle.lists.proofs.LoopLaws.{Copied, copy-begun}
-use Rattle.byte.specs.private.Quarters.{quarter}
-use Rattle.byte.proofs.QuarterLaws.{row_fits, quarter-next, quarter-done}
+use Rattle.std.proofs.Common.{arith}
+use Rattle.byte.proofs.QuarterLaws.{quarter-next, quarter-done}
 use Rattle.byte.proofs.write.put_quarter.Goals as goal
 
 pub loop-i-preserved : goal.loop-i-preserved

@@ -1,8 +1,7 @@
 -- `byte::write::put_quarter` meets its contract. The invariant: the pulses left of the table's row, put after those that are there, give them all.
-use Rattle.std.proofs.Common.{◌-◌, ◌≤◌, arith, rules}
-use Rattle.lists.proofs.LoopLaws.{Copied, copy-begun}
+use Rattle.std.proofs.Common.{◌-◌, ◌≤◌}
+use Rattle.lists.proofs.LoopLaws.{Copied}
 use Rattle.byte.specs.private.Quarters.{quarter}
-use Rattle.byte.proofs.QuarterLaws.{row_fits, quarter-next, quarter-done}
 use Rattle.byte.proofs.write.put_quarter.Given as goal
 
 abbrev pub invariant-loop-i : goal.invariant-loop-i

@@ -1,5 +1,4 @@
 -- `byte::write::put_twenty` meets its contract: the marker, the eight bits and the parity bit are stored one after the other.
-use Rattle.std.proofs.Common.{rules}
 use Rattle.byte.proofs.Stores.{byte_put}
 use Rattle.byte.proofs.write.put_twenty.Goals as goal
 

@@ -1,8 +1,5 @@
 use Prim.Native.Nat.{◌-◌, ◌≤◌}
-use native.Mathlib.Omega.{arith}
-use Rattle.deck.proofs.Answering.{PayloadPut, fill-begun, fill-next, fill_done}
-use Rattle.deck.proofs.work.fill.Reads as reads
-use Rattle.deck.proofs.work.fill.Lts as lts
+use Rattle.deck.proofs.Answering.{PayloadPut}
 use Rattle.deck.proofs.work.fill.Given as goal
 
 abbrev pub invariant-loop-i : goal.invariant-loop-i

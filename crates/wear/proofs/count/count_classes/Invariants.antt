@@ -1,13 +1,7 @@
 -- `wear::count::count_classes` meets its contract. The invariant: what was counted, with the classes of the pulses that are left, is all.
-use Rattle.pulse.specs.declared.Class.TheVariants.{Short, Medium, Long}
 use Prim.Native.Nat.{◌-◌}
-use native.Mathlib.Omega.{arith}
-use mathlib.Core.Path.{ap, ◌∙◌}
-use borrow.Author.Rules.{rules}
 use lib.ListN.{length}
-use Rattle.pulse.specs.Pulse.{classes}
-use Rattle.wear.specs.private.Counts.{pulses_of}
-use Rattle.wear.proofs.ClassLaws.{Sorting, sorting-begun, count-few, sorting-next, sorting-few, sorting-done}
+use Rattle.wear.proofs.ClassLaws.{Sorting}
 use Rattle.wear.proofs.count.count_classes.Given as goal
 
 abbrev pub invariant-loop-i : goal.invariant-loop-i

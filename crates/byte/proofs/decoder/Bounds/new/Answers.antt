@@ -1,6 +1,5 @@
 -- `byte::decoder::Bounds::new` meets its contract.
 use Rattle.byte.proofs.FrameLaws.{bounds-are}
-use Rattle.std.proofs.Common.{rules}
 use Rattle.byte.proofs.decoder.Bounds.new.Goals as goal
 
 pub returns : goal.returns
