@@ -9,7 +9,7 @@ use mathlib.Core.Bool.{Bool, true, false, cond}
 use mathlib.Core.List.{List, [], ◌∷◌, ◌++◌, map, append_assoc}
 use borrow.Author.Tests.{lt-ltb, le-ltb}
 use lib.Dec.{ltb}
-use lib.ListN.{length, take, drop, get_or, set, length-append, length-map, length-take, length-drop, drop_of_length-le}
+use lib.ListN.{length, take, drop, get_or, set, length-append, length-map, drop_of_length-le}
 use lib.Seq.{sets, length-sets, sets-eq, drop-drop, drop-cons}
 use borrow.Rule.Slice.PartMut.{put_mid}
 use Rattle.lists.specs.Text.{ascii}

@@ -6,6 +6,7 @@
 //   type start end bytes name
 //   refused 10 0 0
 #![tactic(auto)]
+
 ghost use Rattle.std.specs.Prelude.{◌+◌, ◌≤◌, ◌<◌, ◌≡◌, ◌∷◌, [], ◌++◌, map, length};
 ghost use Rattle.lists.specs.Buffer.{put_at, Counts};
 ghost use Rattle.refusal.specs.Refusal.{number_of};

@@ -1,5 +1,6 @@
 // Lists the program file that a TAP file holds: tape_list < FILE
 #![tactic(auto)]
+
 use std::io;
 use std::io::{Read, Write};
 

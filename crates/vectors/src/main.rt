@@ -1,6 +1,7 @@
 // Lists TAP files that an independent tool made. The arguments are their names; the output is compared with the listings expected.
 // docs/TESTING.md says what is known of the tool.
 #![tactic(auto)]
+
 use std::fs::File;
 use std::io::{Read, Write};
 use std::{env, io};

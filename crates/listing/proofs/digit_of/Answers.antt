@@ -1,7 +1,6 @@
 -- `listing::digit_of` meets its contract: code and definition go by the same test.
 use native.Mathlib.Omega.{arith}
 use borrow.Author.Tests.{lt-ltb, le-ltb}
-use borrow.Author.Rules.{rules}
 use Rattle.listing.specs.Listing.{digit}
 use Rattle.listing.proofs.digit_of.Goals as goal
 

@@ -1,7 +1,6 @@
 -- `listing::load` meets its contract: refusal 1, what the TAP reader refuses, and then what the file reader comes to.
 use Prim.Native.Nat.{ℕ}
 use mathlib.Core.Path.{sym}
-use borrow.Author.Rules.{rules}
 use lib.ListN.{replicate, length-replicate}
 use lib.Seq.{length-take-le}
 use Rattle.listing.proofs.Listed.{file_in-wrong_size, file_in-no_tape, count-within, file_in-read}

@@ -1,7 +1,4 @@
 -- `listing::put_address` meets its contract: five stores, one after the other.
-use native.Mathlib.Omega.{arith}
-use borrow.Author.Rules.{rules}
-use lib.ListN.{length-set}
 use Rattle.listing.proofs.LineLaws.{address-put}
 use Rattle.listing.proofs.put_address.Goals as goal
 

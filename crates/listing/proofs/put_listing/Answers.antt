@@ -1,6 +1,5 @@
 -- `listing::put_listing` meets its contract: the heading, and after it the line of the answer.
 use native.Mathlib.Omega.{arith}
-use borrow.Author.Rules.{rules}
 use Rattle.lists.specs.Text.{ascii}
 use Rattle.header.proofs.HeaderLaws.{shown_name-width}
 use Rattle.listing.proofs.LineLaws.{append-room, refusal-listed, file-listed}

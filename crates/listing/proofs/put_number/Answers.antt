@@ -1,6 +1,5 @@
 -- `listing::put_number` meets its contract: the digits, and the character after them.
 use native.Mathlib.Omega.{arith}
-use borrow.Author.Rules.{rules}
 use Rattle.listing.proofs.LineLaws.{append-one, append-length, append-room, width-digits}
 use Rattle.listing.proofs.put_number.Goals as goal
 

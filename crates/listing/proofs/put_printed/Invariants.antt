@@ -1,9 +1,7 @@
 -- `listing::put_printed` meets its contract. The invariant: the characters of the bytes left, put after those that are there, give them all.
 use Prim.Native.Nat.{◌-◌, ◌≤◌}
-use native.Mathlib.Omega.{arith}
-use borrow.Author.Rules.{rules}
 use lib.ListN.{length}
-use Rattle.listing.proofs.LineLaws.{PrintedPut, printed-begun, printed-next, printed-done}
+use Rattle.listing.proofs.LineLaws.{PrintedPut}
 use Rattle.listing.proofs.put_printed.Given as goal
 
 abbrev pub invariant-loop-i : goal.invariant-loop-i
