@@ -8,7 +8,7 @@ LIB = target/crumbthistle
 
 run: # prove and build the listing program, then list a tape: make run TAPE=FILE
 	@mkdir -p target/bin
-	@cd crates/tape_list && rt run < /dev/null > ../../target/run.log 2>&1 || { tail -n 40 ../../target/run.log; exit 1; }
+	@(cd crates/tape_list && rt run < /dev/null) > target/run.log 2>&1 || { tail -n 40 target/run.log; exit 1; }
 	@cp crates/tape_list/out/tape_list target/bin/
 	@target/bin/tape_list < "$(TAPE)"
 
@@ -16,16 +16,18 @@ test: # prove everything from nothing, try the edits that must be refused, run e
 	@tests/run
 
 lib: # prove and build the library for C
-	@mkdir -p target
-	@cd crates/capi && rt lib > ../../target/lib.log 2>&1 || { tail -n 40 ../../target/lib.log; exit 1; }
+	@mkdir -p target/staticlib
+	@(cd crates/capi && rt lib) > target/lib.log 2>&1 || { tail -n 40 target/lib.log; exit 1; }
+	@cp crates/capi/out/libcapi.a target/staticlib/
 	@mkdir -p "$(LIB)/include" "$(LIB)/lib"
 	@cp include/crumbthistle.h "$(LIB)/include/"
-	@cp crates/capi/out/libcapi.a "$(LIB)/lib/libcrumbthistle.a"
+	@cp target/staticlib/libcapi.a "$(LIB)/lib/libcrumbthistle.a"
 	@echo "cc -I$(LIB)/include PROGRAM.c -L$(LIB)/lib -lcrumbthistle"
 
 bench-lib: # prove and build the archive of the crate bench, which the Rust tests link too
-	@mkdir -p target
-	@cd crates/bench && rt lib > ../../target/bench-lib.log 2>&1 || { tail -n 40 ../../target/bench-lib.log; exit 1; }
+	@mkdir -p target/staticlib
+	@(cd crates/bench && rt lib) > target/bench-lib.log 2>&1 || { tail -n 40 target/bench-lib.log; exit 1; }
+	@cp crates/bench/out/libbench.a target/staticlib/
 
 # both archives for the bench, with every function at a multiple of 64 bytes, as those of the Rust implementation are
 ALIGNED = target/aligned
@@ -33,7 +35,7 @@ ALIGNED = target/aligned
 bench-aligned: lib bench-lib
 	@mkdir -p "$(ALIGNED)"
 	@for name in capi bench; do \
-	    objcopy -w --set-section-alignment '.text.*=64' "crates/$$name/out/lib$$name.a" "$(ALIGNED)/lib$$name.a" || exit 1; \
+	    objcopy -w --set-section-alignment '.text.*=64' "target/staticlib/lib$$name.a" "$(ALIGNED)/lib$$name.a" || exit 1; \
 	done
 
 BENCH = CRUMBTHISTLE_LIB="$(CURDIR)/$(ALIGNED)" cargo run --release --offline --quiet --bin bench --
