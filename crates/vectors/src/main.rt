@@ -3,7 +3,7 @@
 #![tactic(auto)]
 
 use std::fs::File;
-use std::io::{Read, Write};
+use std::io::{ErrorKind, Read, Write};
 use std::{env, io};
 
 // The length of '.tap', with which every name has to end and which is not printed.
@@ -35,8 +35,12 @@ fn list_argument(rt: &HostRuntime, path: &str) -> io::Result<()> {
 
 fn list_file(rt: &HostRuntime, file: File) -> io::Result<()> {
     let mut bytes = Vec::new(rt.alloc());
-    file.take(listing::INPUT_ROOM as u64)
-        .read_to_end(&mut bytes)?;
+    let mut input = file.take(listing::INPUT_ROOM as u64);
+    match input.read_to_end(&mut bytes) {
+        Err(e) if e.kind() == ErrorKind::OutOfMemory => return Err(e),
+        // A read that fails counts as the end of the file.
+        _ => {}
+    }
     let mut text = [0u8; listing::MOST_TEXT];
     let count = listing::list_tape(&bytes, &mut text);
     rt.stdout().write_all(&text[..count])
