@@ -12,7 +12,7 @@ run: # prove and build the listing program, then list a tape: make run TAPE=FILE
 	@cp crates/tape_list/out/tape_list target/bin/
 	@target/bin/tape_list < "$(TAPE)"
 
-test: # prove everything from nothing, try the edits that must be refused, run every program; then the tests beside the proofs
+test: # prove everything, try the edits that must be refused, run every program; then the tests beside the proofs
 	@tests/run
 
 lib: # prove and build the library for C

@@ -33,7 +33,8 @@ extern "C" {
  * before would notice, and with new calls. In version 2 the long form of TAP files counts cycles, where it counted units of eight
  * cycles. In version 3 tape_read_block and tape_read_file need more stack. In version 4 a refusal has the causes of a lost byte, so that every
  * answer which begins with one is longer; totals and steps of a walk have the bad bytes by their causes, and tape_walk_block and
- * tape_report_strip need more stack. In version 5 tape_deck, tape_told and the five calls of a deck are new. */
+ * tape_report_strip need more stack. In version 5 tape_pack_header, tape_write_tap and tape_read_tap need more stack; tape_deck, tape_told and the
+ * five calls of a deck are new. */
 #define TAPE_VERSION 5
 
 enum {

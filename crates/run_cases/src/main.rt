@@ -45,7 +45,7 @@ fn main(rt: HostRuntime) -> io::Result<()> {
 fn largest(rt: &HostRuntime) -> io::Result<()> {
     let mut payload = [0u8; 8192];
     number_bytes(&mut payload);
-    let mut strip = vec![in rt.alloc(); 0u32; LARGE_STRIP]?;
+    let mut strip = [0u32; LARGE_STRIP];
     let mut out = [0u8; 8192];
     say_put(rt, block::write_block(&payload, LEADER, &mut strip))?;
     say_block(rt, block::read_block(&strip, 0, 8192, &mut out))?;
@@ -58,7 +58,7 @@ fn largest(rt: &HostRuntime) -> io::Result<()> {
 
 fn too_large(rt: &HostRuntime) -> io::Result<()> {
     let payload = [0u8; 8193];
-    let mut strip = vec![in rt.alloc(); 0u32; LARGE_STRIP]?;
+    let mut strip = [0u32; LARGE_STRIP];
     say_put(rt, block::write_block(&payload, LEADER, &mut strip))
 }
 
