@@ -1,5 +1,6 @@
 // Lists the program file that a TAP file holds: tape_list < FILE
 #![tactic(auto)]
+
 ghost use Rattle.std.specs.Prelude.{◌≡◌, ◌≤◌, length};
 
 use std::io;
