@@ -7,8 +7,6 @@ ghost use Rattle.pulse.specs.Pulse.{fixed, classes};
 ghost use Rattle.block.specs.Reading.{read_block};
 ghost use Rattle.bench.specs.Bench.{thresholds_of, tally_of, CountPromise};
 
-use block::BlockAnswer;
-use byte::FrameRead;
 use pulse::{Cycles, Thresholds};
 
 // What a loop over bytes answers: how many are good, and the XOR of their values.
@@ -52,26 +50,21 @@ pub extern "C" fn bench_read_fixed(pulses: &[u32]) -> BenchTally
 pub extern "C" fn bench_read_block(pulses: &[u32], from: usize, n: usize, out: &mut [u8]) -> usize
     ensures { CountPromise (read_block (classes fixed pulses.now) (length out.old) from n) out.old result out.new }
 {
-    match block::read_block(pulses, from, n, out) {
-        BlockAnswer::Accepted(extent) => extent.n,
-        BlockAnswer::Refused(_) => 0,
-    }
+    block::read_block(pulses, from, n, out).map_or(0, |extent| extent.n)
 }
 
 fn tally(t: Thresholds, pulses: &[u32]) -> BenchTally
     ensures { result ≡ tally_of (classes t pulses.now) }
 {
-    let count = pulses.len() / byte::BYTE_PULSES;
     let mut good: usize = 0;
     let mut xor: u8 = 0;
-    let mut i: usize = 0;
-    while i < count {
+    let count = pulses.len() / byte::BYTE_PULSES;
+    for i in 0..count {
         let at = byte::BYTE_PULSES * i;
-        if let FrameRead::Value(v) = byte::read_frame(t, &pulses[at..at + byte::BYTE_PULSES]) {
-            good = good + 1;
-            xor = xor ^ v;
+        if let Some(v) = byte::read_frame(t, &pulses[at..at + byte::BYTE_PULSES]) {
+            good += 1;
+            xor ^= v;
         }
-        i = i + 1;
     }
     BenchTally { good, xor }
 }

@@ -1,27 +1,22 @@
 -- Bad bytes, counted by their causes.
-use Prim.Native.Nat.{ℕ, ◌+◌, ◌-◌, ◌*◌, ◌^◌, ◌≤◌, ◌<◌}
+use Prim.Native.Nat.{ℕ, ◌+◌, ◌*◌, ◌^◌, ◌≤◌, ◌<◌}
+use Rattle.std.specs.Prelude.{Option, ℕ, None}
 use native.Mathlib.Nat.{zero-add}
 use native.Mathlib.Numerals.{add-one}
-use native.Mathlib.Decide.{ℕ_discrete, dec_lt}
 use native.Mathlib.Omega.{arith}
 use mathlib.Core.Path.{◌≡◌, refl, sym, ap, ◌∙◌}
 use mathlib.Core.Bool.{cond}
 use mathlib.Core.List.{List}
 use borrow.Author.Tests.{eq-eqb, ne_eqb}
-use lib.ListN.{length, get_or, set, replicate}
-use lib.Seq.{set_out, get_or-set_same, get_or-set_other}
-use Rattle.lists.specs.Places.{count_below, tabulate, part, Below}
+use lib.ListN.{get_or, set, replicate}
+use Rattle.lists.specs.Places.{count_below, tabulate, Below}
 use Rattle.lists.proofs.PlaceLaws.{tabulate-same, get_d_tabulate, set-table, table-most}
 use Rattle.lists.proofs.CountLaws.{count_most}
-use Rattle.pulse.specs.declared.Thresholds.{Thresholds}
 use Rattle.pulse.specs.declared.Class.{Class}
-use Rattle.pulse.specs.Pulse.{classes}
 use Rattle.byte.specs.declared.ByteRead.{ByteRead}
 use Rattle.byte.specs.declared.ByteRead.TheVariants.{Good, Bad}
-use Rattle.byte.specs.declared.FrameRead.{FrameRead}
-use Rattle.byte.specs.declared.FrameRead.TheVariants.{Value, None}
-use Rattle.byte.specs.Byte.{value_in, first_wrong, byte_at, is_bad_by}
-use Rattle.byte.proofs.CauseLaws.{byte_at-bad, byte_at-most, first_wrong-most, value_in-none, value_in-good, wrong-there}
+use Rattle.byte.specs.Byte.{value_in, first_wrong, twenty, byte_at, is_bad_by}
+use Rattle.byte.proofs.CauseLaws.{byte_at-bad, byte_at-most, first_wrong-most, value_in-none}
 use Rattle.start.specs.Copies.{byte_place}
 use Rattle.block.specs.Looking.{each_cause, bad_by}
 use Rattle.block.specs.private.Causes.{with_byte, with_place}
@@ -31,29 +26,13 @@ use Rattle.block.specs.private.Causes.{with_byte, with_place}
 pub cause-small : (ys : List Class) {cause : ℕ} → cause ≡ first_wrong ys → cause < 11
 cause-small ys e = omega (arith, first_wrong-most ys)
 
-module _ (t : Thresholds) (strip : List ℕ) (at : ℕ) (counts : List ℕ) {read : FrameRead} (e : read ≡ value_in (byte_at (classes t strip) at)) where
-  pub bad-counted : {cause : ℕ} → read ≡ None → cause ≡ first_wrong (classes t (part strip at (at + 20 - at)))
-      → set counts cause (get_or counts cause 0 + 1) ≡ with_byte (byte_at (classes t strip) at) counts
-  bad-counted g f =
-      rw (byte_at-bad (classes t strip) at (value_in-none (byte_at (classes t strip) at) (sym g ∙ e)))
-      (ap (λ k. set counts k (get_or counts k 0 + 1)) (f ∙ wrong-there t strip at))
+module _ (cs : List Class) (at : ℕ) (counts : List ℕ) {read : Option ℕ} (e : read ≡ value_in (byte_at cs at)) where
+  module _ {cause : ℕ} (g : read ≡ None) (f : cause ≡ first_wrong (twenty cs at)) where
+    pub bad-told : Bad cause ≡ byte_at cs at
+    bad-told = ap Bad f ∙ sym (byte_at-bad cs at (value_in-none (byte_at cs at) (sym g ∙ e)))
 
-  pub good-counted : {v : ℕ} → read ≡ Value v → counts ≡ with_byte (byte_at (classes t strip) at) counts
-  good-counted {v} g = rw (← value_in-good (byte_at (classes t strip) at) v (sym g ∙ e))
-
--- no number is large with a byte more
-set-small : (counts : List ℕ) (k j : ℕ) → Below (2 ^ 62) counts → get_or (set counts k (get_or counts k 0 + 1)) j 0 < 2 ^ 63
-set-small counts k j small = elim (ℕ_discrete j k) [
-  | yes e ↦ elim (dec_lt k (length counts)) [
-    | yes h ↦ rw (e, get_or-set_same counts k (get_or counts k 0 + 1) 0 h) (omega (arith, small k))
-    | no h ↦ rw (set_out counts k (get_or counts k 0 + 1) (omega arith)) (omega (arith, small j))
-  ]
-  | no e ↦ rw (get_or-set_other counts k j (get_or counts k 0 + 1) 0 e) (omega (arith, small j))
-]
-
-pub with-small : (r : ByteRead) (counts : List ℕ) {counts' : List ℕ} → Below (2 ^ 62) counts → counts' ≡ with_byte r counts → Below (2 ^ 63) counts'
-with-small (Good v) counts small e j = rw e (omega (arith, small j))
-with-small (Bad cause) counts small e j = rw e (set-small counts cause j small)
+    pub bad-counted : set counts cause (get_or counts cause 0 + 1) ≡ with_byte (byte_at cs at) counts
+    bad-counted = rw (← bad-told) refl
 
 -- a number for each cause, with a byte more
 with-table : (f : ℕ → ℕ) (r : ByteRead) → ((cause : ℕ) → r ≡ Bad cause → cause ≤ 10)

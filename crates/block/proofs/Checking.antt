@@ -3,25 +3,29 @@ use Prim.Native.Nat.{ℕ, ◌+◌, ◌*◌, ◌≤◌, ◌<◌}
 use native.Mathlib.Nat.{zero-add, add_comm}
 use native.Mathlib.Numerals.{add-one}
 use native.Mathlib.Omega.{arith}
-use mathlib.Core.Path.{◌≡◌, refl, sym, ap, ap₂, ◌∙◌}
-use mathlib.Core.Bool.{Bool, true, false, cond}
+use mathlib.Core.Path.{◌≡◌, refl, sym, ap, ◌∙◌}
+use mathlib.Core.Bool.{false, cond}
 use mathlib.Core.List.{List}
-use mathlib.Core.Option.{none}
+use Rattle.std.specs.Prelude.{None, Result, Err}
 use borrow.Author.Count.{below_more}
 use lib.Bits.{bit_xor}
+use lib.Dec.{eqb}
 use lib.ListN.{length}
 use Rattle.lists.specs.Places.{first_from, count_below}
 use Rattle.lists.proofs.CountLaws.{count_most}
 use Rattle.lists.proofs.LoopLaws.{first_left, first-begun, first-passed, first-here, first-over}
 use Rattle.pulse.specs.declared.Class.{Class}
-use Rattle.block.specs.declared.rules.Check.{Check}
-use Rattle.block.specs.declared.rules.Check.TheVariants.{Sound, LostAt, WrongSum}
-use Rattle.block.specs.Reading.{FromOne, FromTwo, no_value, place_value, place_at, is_lost, sum_holds}
+use Rattle.refusal.specs.declared.Causes.{Causes}
+use Rattle.refusal.specs.declared.Reason.TheVariants.{LostByte}
+use Rattle.refusal.specs.declared.Refusal.{Refusal}
+use Rattle.refusal.specs.Refusal.{refusal_at}
+use Rattle.refusal.specs.Outcome.{outcome_of}
+use Rattle.block.specs.Reading.{FromOne, FromTwo, Lost, no_value, place_value, place_at, is_lost}
 use Rattle.block.specs.Looking.{is_from_two}
 use Rattle.block.specs.private.Flags.{flag_at, raised, group_of}
-use Rattle.block.specs.private.Checks.{check_of, is_repaired, repairs, Checked}
+use Rattle.block.specs.private.Checks.{sum_checked, is_repaired, repairs, Checked}
 use Rattle.block.proofs.FlagLaws.{length-raised, raised-down, raised_keeps}
-use Rattle.block.proofs.Summing.{Summed, summed-begun, summed-next, summed-holds, summed-fails}
+use Rattle.block.proofs.Summing.{Summed, summed-begun, summed-next, summed-holds}
 
 -- ---- Places 0 to n
 
@@ -50,11 +54,12 @@ checking-begun cs one two n row = record {
 }
 
 module _ {cs : List Class} {one two n : ℕ} {row₀ row : List ℕ} {sum repaired i : ℕ} (u : Checking cs one two n row₀ row sum repaired i) where
-  pub check_values-lost : {row' : List ℕ} → i ≤ n → is_lost cs one two i ≡ true → Checked cs one two n (LostAt i) row'
-  check_values-lost h e =
-      let f = sym u.left ∙ first-here (is_lost cs one two) (n + 1) i (omega arith) e in
+  pub check_values-lost : {row' : List ℕ} {causes : Causes} {r : Refusal} → i ≤ n → place_at cs one two i ≡ Lost causes → r ≡ refusal_at (LostByte causes) i
+      → Checked cs one two n (Err r) row'
+  check_values-lost h e q =
+      let f = sym u.left ∙ first-here (is_lost cs one two) (n + 1) i (omega arith) (ap no_value e) in
       record {
-        says = ap (λ o. check_of o (sum_holds cs one two n) (repairs cs one two n)) (sym f);
+        says = rw (f, q, e) refl;
         flagged = λ g. absurd (let z : ◌≡◌ {A = ℕ} 0 1 = cc in omega arith);
       }
 
@@ -92,20 +97,14 @@ module _ {cs : List Class} {one two n : ℕ} {row₀ row : List ℕ} {sum repair
 
   -- after the checksum's place
   module _ (last : n < i) where
-    none-lost : none ≡ first_from (is_lost cs one two) (n + 1) 0
+    none-lost : None ≡ first_from (is_lost cs one two) (n + 1) 0
     none-lost = sym (first-over (is_lost cs one two) (n + 1) i (omega arith)) ∙ u.left
 
     all-counted : repaired ≡ repairs cs one two n
     all-counted = let few = u.few in u.counted ∙ ap (count_below (is_repaired cs one two)) (omega arith)
 
-    ended : {check : Check} (holds : Bool) → check ≡ check_of none holds repaired → sum_holds cs one two n ≡ holds → Checked cs one two n check row
-    ended holds e q = record {
-      says = e ∙ ap₂ (λ o k. check_of o holds k) none-lost all-counted ∙ ap (λ t. check_of (first_from (is_lost cs one two) (n + 1) 0) t (repairs cs one two n)) (sym q);
+    pub check_values-ended : {answer : Result ℕ Refusal} → outcome_of answer ≡ sum_checked (eqb sum 0) n repaired → Checked cs one two n answer row
+    check_values-ended e = record {
+      says = rw (← none-lost, ← (summed-holds u.summed last), ← all-counted) e;
       flagged = λ g j l. u.flagged j (omega arith) l;
     }
-
-    pub check_values-sound : sum ≡ 0 → Checked cs one two n (Sound repaired) row
-    check_values-sound q = ended true refl (summed-holds u.summed last q)
-
-    pub check_values-wrong_sum : (sum ≡ 0 → ⊥) → Checked cs one two n WrongSum row
-    check_values-wrong_sum q = ended false refl (summed-fails u.summed last q)

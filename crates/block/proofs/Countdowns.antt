@@ -7,12 +7,13 @@ use mathlib.Core.List.{List, [], ◌∷◌}
 use lib.ListN.{length, get_or}
 use Rattle.lists.specs.Places.{tabulate}
 use Rattle.pulse.specs.declared.Class.{Class}
-use Rattle.byte.specs.Byte.{value_in, byte_at}
+use Rattle.byte.specs.declared.ByteRead.{ByteRead}
+use Rattle.byte.specs.declared.ByteRead.TheVariants.{Good, Bad}
+use Rattle.byte.specs.Byte.{value_in, byte_at, is_good}
 use Rattle.block.specs.Reading.{is_counted}
 use Rattle.block.specs.Block.{first_byte, countdown}
 use Rattle.block.specs.private.Checks.{has_value}
 use Rattle.block.proofs.BlockLaws.{length-countdown, countdown-at}
-use Rattle.block.proofs.SourceLaws.{good-value}
 
 abbrev pub table : List (List ℕ)
 table =
@@ -37,6 +38,10 @@ module _ (copy : ℕ) (h : copy < 2) where
   row_at i l = ap (λ (row : List ℕ). get_or row i 0) row-countdown ∙ countdown-at copy i l
 
 -- ---- Rule 3
+
+good-value : (v : ℕ) (r : ByteRead) → has_value v (value_in r) ≡ is_good v r
+good-value v (Good w) = refl
+good-value v (Bad cause) = refl
 
 module _ (cs : List Class) (one two i : ℕ) where
   pub is_counted-one : (v : ℕ) → v ≡ first_byte 0 - i → has_value v (value_in (byte_at cs (one + 20 * i))) ≡ true → true ≡ is_counted cs one two i

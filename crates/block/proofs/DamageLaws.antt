@@ -7,7 +7,7 @@ use mathlib.Core.Path.{◌≡◌, refl, sym, ap, ◌∙◌}
 use mathlib.Core.Logic.{◌⊎◌, inl, inr}
 use mathlib.Core.Bool.{true, false, ◌||◌}
 use mathlib.Core.List.{List, [], ◌∷◌, ◌++◌}
-use mathlib.Core.Option.{some}
+use Rattle.std.specs.Prelude.{Some}
 use borrow.Author.Tests.{eq-eqb}
 use lib.Dec.{lit<, lit≤}
 use lib.ListN.{length, get_or, length-map, length-take, length-drop, get_or-replicate, get_or-append, get_or-map}
@@ -141,7 +141,7 @@ module _ (cs : List Class) (o k : ℕ) (payload : List ℕ) {n : ℕ} (long : le
 
   -- all five rules, where after `from` only short pulses stand before the block
   module _ (from : ℕ) (lead : 16 ≤ k) (far : from + 16 ≤ one) (before : (i : ℕ) → from < i → i < o → get_or cs i Noise ≡ Short) where
-    start-found : start_of cs from ≡ some one
+    start-found : start_of cs from ≡ Some one
     start-found = start_of-short cs from one far (λ i a b. leader-short i (omega arith) b) short first_good
       where
         short : (i : ℕ) → from < i → i < one → get_or cs i Noise ≡ Short

@@ -11,7 +11,7 @@ mod Answers
 mod Looks
 pub mod BlockLaws
 pub mod ReadingLaws
-mod SourceLaws
+mod RuleLaws
 pub mod LookingLaws
 pub mod Telling
 pub mod DamageLaws

@@ -21,8 +21,7 @@ use Rattle.start.specs.Copies.{byte_place, copy_two, end_of, locate_copies}
 use Rattle.start.specs.Start.{find_start}
 use Rattle.start.proofs.CopiesLaws.{locate_copies-accepted}
 use Rattle.block.specs.Block.{wrong_size}
-use Rattle.block.specs.Reading.{is_miscounted, Place, FromOne, FromTwo, Lost, place_of, no_value, place_value, causes_in, is_lost, causes_at, value_at, values_at, sum_holds, BlockRead, block_at, read_copies, read_at, read_from, read_block, place_at}
-use Rattle.block.specs.Looking.{is_from_two}
+use Rattle.block.specs.Reading.{is_miscounted, Place, FromOne, FromTwo, Lost, place_of, no_value, causes_in, is_lost, causes_at, value_at, values_at, sum_holds, BlockRead, block_at, read_copies, read_at, read_from, read_block, place_at}
 
 -- ---- Rule 4
 
@@ -51,17 +50,6 @@ pub lost-is : (p : Place) → no_value p ≡ true → Lost (causes_in p) ≡ p
 lost-is (FromOne v) e = absurd (let z : ◌≡◌ {A = ℕ} 0 1 = cc in omega arith)
 lost-is (FromTwo v) e = absurd (let z : ◌≡◌ {A = ℕ} 0 1 = cc in omega arith)
 lost-is (Lost causes) e = refl
-
--- a lost place has no value that counts, and none of copy two
-pub lost-value : (p : Place) → no_value p ≡ true → place_value p ≡ 0
-lost-value (FromOne v) e = absurd (let z : ◌≡◌ {A = ℕ} 0 1 = cc in omega arith)
-lost-value (FromTwo v) e = absurd (let z : ◌≡◌ {A = ℕ} 0 1 = cc in omega arith)
-lost-value (Lost causes) e = refl
-
-pub lost-other : (p : Place) → no_value p ≡ true → is_from_two p ≡ false
-lost-other (FromOne v) e = refl
-lost-other (FromTwo v) e = absurd (let z : ◌≡◌ {A = ℕ} 0 1 = cc in omega arith)
-lost-other (Lost causes) e = refl
 
 -- the same of payload place i of a strip, and of place n for the checksum
 module _ (cs : List Class) (one two i : ℕ) where

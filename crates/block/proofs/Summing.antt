@@ -2,6 +2,7 @@
 use Prim.Native.Nat.{ℕ, ◌+◌, ◌≤◌, ◌<◌}
 use native.Mathlib.Nat.{zero-add}
 use native.Mathlib.Numerals.{add-one}
+use native.Mathlib.Decide.{ℕ_discrete}
 use native.Mathlib.Omega.{arith}
 use mathlib.Core.Path.{◌≡◌, refl, sym, ap, ◌∙◌}
 use mathlib.Core.Bool.{true, false}
@@ -16,7 +17,7 @@ use Rattle.pulse.specs.declared.Class.{Class}
 use Rattle.block.specs.Block.{xor_from, checksum}
 use Rattle.block.specs.Reading.{place_value, place_at, value_at, values_at, sum_holds}
 
-xor-snoc : (x : ℕ) (bytes : List ℕ) (b : ℕ) → xor_from x (bytes ++ (b ∷ [])) ≡ bit_xor (xor_from x bytes) b
+pub xor-snoc : (x : ℕ) (bytes : List ℕ) (b : ℕ) → xor_from x (bytes ++ (b ∷ [])) ≡ bit_xor (xor_from x bytes) b
 unfolding xor_from
 xor-snoc x [] b = refl
 xor-snoc x (c ∷ bytes) b = xor-snoc (bit_xor x c) bytes b
@@ -58,8 +59,8 @@ module _ {cs : List Class} {one two n sum i : ℕ} (u : Summed cs one two n sum 
         ∙ xor-snoc 0 (values_at cs one two n) (value_at cs one two (0 + n))
         ∙ ap (λ k. bit_xor expected (value_at cs one two k)) (zero-add n)
 
-    pub summed-holds : sum ≡ 0 → sum_holds cs one two n ≡ true
-    summed-holds q = xor-zero expected (value_at cs one two n) (sym sum_is ∙ q)
-
-    pub summed-fails : (sum ≡ 0 → ⊥) → sum_holds cs one two n ≡ false
-    summed-fails q = xor-other expected (value_at cs one two n) (λ e. q (sum_is ∙ e))
+    pub summed-holds : eqb sum 0 ≡ sum_holds cs one two n
+    summed-holds = elim (ℕ_discrete sum 0) [
+      | yes q ↦ eq-eqb sum 0 q ∙ sym (xor-zero expected (value_at cs one two n) (sym sum_is ∙ q))
+      | no q ↦ ne_eqb sum 0 q ∙ sym (xor-other expected (value_at cs one two n) (λ e. q (sum_is ∙ e)))
+    ]

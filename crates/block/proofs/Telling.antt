@@ -5,7 +5,7 @@ use native.Mathlib.Omega.{arith}
 use mathlib.Core.Path.{◌≡◌, refl, sym, ap}
 use mathlib.Core.Bool.{Bool, true, false, cond, ◌&&◌}
 use mathlib.Core.List.{List}
-use mathlib.Core.Option.{Option, none, some}
+use Rattle.std.specs.Prelude.{Option, None, Some}
 use borrow.Author.Tests.{eq-eqb, ne_eqb}
 use lib.Dec.{eqb, ltb}
 use lib.ListN.{length}
@@ -31,8 +31,8 @@ use Rattle.block.proofs.ReadingLaws.{place_at-lost, causes-lost}
 -- ---- Refusals
 
 -- any other reason than a lost byte is told with another number than 6, without causes, of block 0
-pub refuse-plain : {A : Type 0} (why : Why) (reason : Reason) (place : ℕ) → (number_of reason ≡ 6 → ⊥) → causes_of reason ≡ none
-    → ◌≡◌ {A = Outcome A} (refuse reason place) (refused why) → (why.number ≡ 6 → ⊥) × (why.causes ≡ none) × (why.block ≡ 0)
+pub refuse-plain : {A : Type 0} (why : Why) (reason : Reason) (place : ℕ) → (number_of reason ≡ 6 → ⊥) → causes_of reason ≡ None
+    → ◌≡◌ {A = Outcome A} (refuse reason place) (refused why) → (why.number ≡ 6 → ⊥) × (why.causes ≡ None) × (why.block ≡ 0)
 refuse-plain why reason place six causes e = let same : why_of (refusal_at reason place) ≡ why = cc in rw (← same) (six, causes, refl)
 
 -- the same refusal, of another block, tells the same
@@ -53,11 +53,11 @@ lost-in cs from n k why t = record {
 -- what a refusal of the block of n bytes from a place on tells: the causes of the two bytes at its place where it is 6, and else none
 pub record Tells (cs : List Class) (from n : ℕ) (why : Why) : Type 0 where
   pub lost : why.number ≡ 6 → LostTold cs from n why
-  pub others : (why.number ≡ 6 → ⊥) → why.causes ≡ none
+  pub others : (why.number ≡ 6 → ⊥) → why.causes ≡ None
   pub block : why.block ≡ 0
 
 module _ (cs : List Class) (from n : ℕ) (why : Why) where
-  plain : {A : Type 0} (reason : Reason) (place : ℕ) → (number_of reason ≡ 6 → ⊥) → causes_of reason ≡ none
+  plain : {A : Type 0} (reason : Reason) (place : ℕ) → (number_of reason ≡ 6 → ⊥) → causes_of reason ≡ None
       → ◌≡◌ {A = Outcome A} (refuse reason place) (refused why) → Tells cs from n why
   plain reason place six causes e =
       let p = refuse-plain why reason place six causes e in
@@ -76,7 +76,7 @@ module _ (cs : List Class) (from n : ℕ) (why : Why) where
         → Tells cs from n why
     lost-there i first e =
         let bad = place_at-lost cs p q i first.passes in
-        let same : record { number = 6; block = 0; place = i; causes = some (causes_at cs p q i) } ≡ why = cc in
+        let same : record { number = 6; block = 0; place = i; causes = Some (causes_at cs p q i) } ≡ why = cc in
         rw (← same) (record {
           lost = λ s. record {
             start = p;
@@ -85,7 +85,7 @@ module _ (cs : List Class) (from n : ℕ) (why : Why) where
             found = f;
             within = omega (arith, first.high);
             least = λ j h. first.least j (omega arith) h;
-            causes = ap some (sym (causes-lost cs p q i first.passes));
+            causes = ap Some (sym (causes-lost cs p q i first.passes));
             most = (first_wrong-most (twenty cs (byte_place p (9 + i))), first_wrong-most (twenty cs (byte_place q (9 + i))));
             first = byte_at-bad cs (byte_place p (9 + i)) bad.0;
             second = byte_at-bad cs (byte_place q (9 + i)) bad.1;
@@ -101,10 +101,10 @@ module _ (cs : List Class) (from n : ℕ) (why : Why) where
         go : (counted found : Option ℕ) → first_from (is_lost cs p q) (n + 1) 0 ≡ found → (holds : Bool)
             → refuse_first WrongCountdown counted (refuse_there (λ i. LostByte (causes_at cs p q i)) found (summed holds)) ≡ refused why
             → Tells cs from n why
-        go (some i) found g holds e = plain WrongCountdown i (λ z. omega arith) refl e
-        go none (some i) g holds e = lost-there i (some_first (is_lost cs p q) (n + 1) 0 i g) e
-        go none none g true e = absurd (let z : ◌≡◌ {A = ℕ} 0 1 = cc in omega arith)
-        go none none g false e = plain WrongChecksum n (λ z. omega arith) refl e
+        go (Some i) found g holds e = plain WrongCountdown i (λ z. omega arith) refl e
+        go None (Some i) g holds e = lost-there i (some_first (is_lost cs p q) (n + 1) 0 i g) e
+        go None None g true e = absurd (let z : ◌≡◌ {A = ℕ} 0 1 = cc in omega arith)
+        go None None g false e = plain WrongChecksum n (λ z. omega arith) refl e
 
     -- with the start known
     at-tell : read_at cs p n ≡ refused why → Tells cs from n why
@@ -122,8 +122,8 @@ module _ (cs : List Class) (from n : ℕ) (why : Why) where
   read_from-tells e = go (start_of cs from) refl e
     where
       go : (o : Option ℕ) → start_of cs from ≡ o → and_then (start_at o) (λ p. read_at cs p n) ≡ refused why → Tells cs from n why
-      go none g e = plain NoStart 0 (λ z. omega arith) refl e
-      go (some p) g e = at-tell p (ap start_at g) e
+      go None g e = plain NoStart 0 (λ z. omega arith) refl e
+      go (Some p) g e = at-tell p (ap start_at g) e
 
   -- with so many places lent
   read_block-tells : (room : ℕ) → read_block cs room from n ≡ refused why → Tells cs from n why

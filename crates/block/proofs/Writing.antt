@@ -1,34 +1,34 @@
 -- What the writer's loops put: with i elements put, those left give the whole.
-use Prim.Native.Nat.{ℕ, suc, ◌+◌, ◌-◌, ◌*◌, ◌≤◌, ◌<◌}
+use Prim.Native.Nat.{ℕ, zero, suc, ◌+◌, ◌-◌, ◌*◌, ◌≤◌, ◌<◌}
+use Rattle.std.specs.Prelude.{Result, ℕ, Err, Ok}
 use native.Mathlib.Nat.{zero-add}
 use native.Mathlib.Numerals.{add-one}
 use native.Mathlib.Omega.{arith}
 use mathlib.Core.Path.{◌≡◌, refl, sym, ap, ◌∙◌}
 use mathlib.Core.Bool.{true, false}
-use mathlib.Core.List.{List, [], ◌∷◌, ◌++◌, append-nil}
+use mathlib.Core.List.{List, [], ◌∷◌, ◌++◌, append-nil, append_assoc}
 use lib.Bits.{bit_xor}
-use lib.ListN.{length, take, drop, get_or, set, replicate, length-replicate, length-take, length-drop, drop_of_length-le}
-use lib.Seq.{sets, drop-cons}
+use lib.ListN.{length, take, drop, get_or, set, replicate, length-replicate, length-map, length-take, length-drop, drop_of_length-le}
+use lib.Seq.{sets, sets-eq, drop-drop, drop-cons}
 use Rattle.lists.specs.Places.{part}
 use Rattle.lists.proofs.BufferLaws.{put-room, sets-lent}
-use Rattle.lists.proofs.LoopLaws.{Putting, put-begun, put_next, put_one, put-done}
+use Rattle.lists.proofs.LoopLaws.{put-begun, put_next, put-done}
 use Rattle.refusal.specs.declared.Reason.TheVariants.{WrongSize, NoRoom, WrongLeader}
 use Rattle.refusal.specs.declared.Refusal.{Refusal}
-use Rattle.refusal.specs.declared.Put.{Put}
-use Rattle.refusal.specs.declared.Put.TheVariants.{Count, Refused}
 use Rattle.refusal.specs.Refusal.{refusal_at}
-use Rattle.refusal.specs.Outcome.{Outcome, accepted, refused_with}
-use Rattle.refusal.specs.Promise.{Fills, itself, put_answer, Written}
+use Rattle.refusal.specs.Outcome.{Outcome, accepted, refused_with, outcome_of}
+use Rattle.refusal.specs.Promise.{Fills, itself, Written}
 use Rattle.refusal.proofs.PromiseLaws.{written-refused, written-accepted}
 use Rattle.refusal.proofs.OutcomeLaws.{if_room-no_room, if_room-room}
 use Rattle.pulse.specs.declared.Class.TheVariants.{Short}
-use Rattle.pulse.specs.Pulse.{pulses}
+use Rattle.pulse.specs.Pulse.{pulses, written_as}
 use Rattle.pulse.proofs.PulseLaws.{put-pulses}
 use Rattle.byte.specs.Byte.{bytes_classes, bytes_pulses, write_bytes}
 use Rattle.byte.proofs.CodingLaws.{length-bytes, length-bytes_pulses}
 use Rattle.byte.proofs.Stores.{write_bytes-stored}
 use Rattle.start.specs.Copies.{copy_pulses, copy_two, end_of}
 use Rattle.block.specs.Block.{xor_from, checksum, countdown, copy_bytes, copy_classes, trailer, block_classes, block_pulses, wrong_size, wrong_leader, measure_block, write_block, block_length}
+use borrow.Rule.Slice.PartMut.{put_mid}
 use Rattle.block.proofs.BlockLaws.{bytes-append, length-countdown, length-copy, length-block_pulses, measure_block-accepted}
 
 -- ---- The checksum
@@ -43,21 +43,19 @@ sum_done x i bytes h = rw (drop_of_length-le bytes h)
 
 -- ---- Short pulses
 
-module _ (out₀ : List ℕ) (at count : ℕ) where
-  abbrev pub ShortsPut : List ℕ → ℕ → Type 0
-  ShortsPut out i = Putting out₀ at (pulses (replicate count Short)) out (at + i) (pulses (replicate (count - i) Short))
+short-pulses : (count : ℕ) → replicate count 360 ≡ pulses (replicate count Short)
+short-pulses zero = refl
+short-pulses (suc count) = ap (λ xs. 360 ∷ xs) (short-pulses count)
 
-  pub shorts-begun : ShortsPut out₀ 0
-  shorts-begun = put-begun out₀ at (at + 0) _ _ (omega arith) (ap (λ k. pulses (replicate k Short)) (let z : count - 0 ≡ count = omega arith in z))
-
-  module _ {out : List ℕ} {i : ℕ} (u : ShortsPut out i) where
-    pub shorts-next : {v : ℕ} → i < count → v ≡ 360 → ShortsPut (set out (at + i) v) (i + 1)
-    shorts-next h e =
-        let s : count - i ≡ suc (count - (i + 1)) = omega arith in
-        rw e (put_one u 360 _ (ap (λ k. pulses (replicate k Short)) s) (omega arith))
-
-    pub shorts-done : count ≤ i → out ≡ sets out₀ at (pulses (replicate count Short))
-    shorts-done h = put-done u (ap (λ k. pulses (replicate k Short)) (let z : count - i ≡ 0 = omega arith in z))
+pub shorts-put : (out : List ℕ) (at count : ℕ) {filled : List ℕ} {v : ℕ} → at + count ≤ length out → filled ≡ replicate (length (part out at (at + count - at))) v → v ≡ 360
+    → put_mid at (at + count - at) out filled ≡ sets out at (pulses (replicate count Short))
+shorts-put out at count h e f =
+    let n : at + count - at ≡ count = omega arith in
+    let all : length (part out at (at + count - at)) ≡ count = simp (length-take, length-drop) (omega arith) in
+    let text = pulses (replicate count Short) in
+    let long : length text ≡ count = length-map (replicate count Short) written_as ∙ length-replicate count Short in
+    rw (e, f, all, short-pulses, n, drop-drop)
+    (sym (append_assoc (take at out) text _) ∙ ap (λ k. (take at out ++ text) ++ drop (at + k) out) (sym long) ∙ sym (sets-eq text out at (rw long h)))
 
 pub trailer-put : (out : List ℕ) (at long : ℕ) → long ≡ 688 → sets (set out at long) (at + 1) (pulses (replicate 60 Short)) ≡ sets out at (pulses trailer)
 unfolding trailer
@@ -133,19 +131,19 @@ module _ (out : List ℕ) (k : ℕ) (payload : List ℕ) where
   abbrev outcome : Outcome (List ℕ)
   outcome = write_block (length out) k payload
 
-  module _ {p : Put} (e : put_answer p ≡ measure_block k (length payload)) where
+  module _ {p : (Result ℕ Refusal)} (e : outcome_of p ≡ measure_block k (length payload)) where
     -- refused as it was measured
-    pub write_block-unmeasured : (r : Refusal) → p ≡ Refused r → Written outcome out (Refused r) out
+    pub write_block-unmeasured : (r : Refusal) → p ≡ Err r → Written outcome out (Err r) out
     unfolding write_block
     write_block-unmeasured r q = written-refused outcome out {r = r} {s = r} (rw (← e, q)) refl
 
-    module _ {count : ℕ} (q : p ≡ Count count) where
-      pub write_block-no_room : {r : Refusal} → length out < count → r ≡ refusal_at NoRoom 0 → Written outcome out (Refused r) out
+    module _ {count : ℕ} (q : p ≡ Ok count) where
+      pub write_block-no_room : {r : Refusal} → length out < count → r ≡ refusal_at NoRoom 0 → Written outcome out (Err r) out
       unfolding write_block
       write_block-no_room h = written-refused outcome out (rw (← e, q, if_room-no_room (length out) count _ h))
 
-      pub write_block-whole : {out' : List ℕ} → count ≤ length out → out' ≡ sets out 0 (block_pulses k payload) → Written outcome out (Count count) out'
+      pub write_block-whole : {out' : List ℕ} → count ≤ length out → out' ≡ sets out 0 (block_pulses k payload) → Written outcome out (Ok count) out'
       unfolding write_block
       write_block-whole h s =
-          let long : length (block_pulses k payload) ≡ count = length-block_pulses k payload ∙ (measure_block-accepted k (length payload) count (sym e ∙ ap put_answer q)).count in
+          let long : length (block_pulses k payload) ≡ count = length-block_pulses k payload ∙ (measure_block-accepted k (length payload) count (sym e ∙ ap outcome_of q)).count in
           written-accepted outcome out (rw (← e, q, if_room-room (length out) count _ h)) long (s ∙ put-room out 0 (block_pulses k payload) (rw (long, zero-add) h))

@@ -1,6 +1,6 @@
 -- What holds of the causes of bad bytes (document 02, Q-6).
 use Rattle.std.specs.Prelude.{ℕ, ◌+◌, ◌*◌, ◌≤◌, ◌<◌, ◌≡◌, false, ◌&&◌, List, [], ◌∷◌}
-use Rattle.std.proofs.Math.Option.{none, some}
+use Rattle.std.specs.Prelude.{None, Some}
 use Rattle.lists.specs.Places.{count_below}
 use Rattle.refusal.specs.Refusal.{Why}
 use Rattle.refusal.specs.Outcome.{refused, accepted}
@@ -22,7 +22,7 @@ pub record LostTold (cs : List Class) (from n : ℕ) (why : Why) : Type 0 where
   pub found : find_start cs from ≡ accepted start
   pub within : why.place ≤ n
   pub least : (i : ℕ) → i < why.place → is_lost cs start (copy_two start n) i ≡ false
-  pub causes : why.causes ≡ some (record { one = one; two = two })
+  pub causes : why.causes ≡ Some (record { one = one; two = two })
   pub most : (one ≤ 10) × (two ≤ 10)
   pub first : byte_at cs (byte_place start (9 + why.place)) ≡ Bad one
   pub second : byte_at cs (byte_place (copy_two start n) (9 + why.place)) ≡ Bad two
@@ -42,7 +42,7 @@ pub record CausesTold : Type 0 where
   -- Refusal 6 of the block reader names the first lost place, and tells the causes of the two bytes there.
   pub lost : (cs : List Class) (room from n : ℕ) (why : Why) → read_block cs room from n ≡ refused why → why.number ≡ 6 → LostTold cs from n why
   -- No other refusal of it has causes.
-  pub others : (cs : List Class) (room from n : ℕ) (why : Why) → read_block cs room from n ≡ refused why → (why.number ≡ 6 → ⊥) → why.causes ≡ none
+  pub others : (cs : List Class) (room from n : ℕ) (why : Why) → read_block cs room from n ≡ refused why → (why.number ≡ 6 → ⊥) → why.causes ≡ None
   -- The eleven counts of a block are together all its bad bytes: a lost place counts twice, a place taken from copy two once, and one taken from
   -- copy one where copy two's byte is bad.
   pub counts : (cs : List Class) (one two n : ℕ)

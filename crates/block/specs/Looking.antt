@@ -1,9 +1,10 @@
 -- Looking at a block whose start is known: what rules 2 to 5 answer, where the value of each place comes from, and which bytes are bad. Nothing
 -- is put.
-use Rattle.std.specs.Prelude.{ℕ, ◌+◌, Bool, true, false, cond, List, [], ◌∷◌, ltb, length, get_or}
+use Rattle.std.specs.Prelude.{ℕ, ◌+◌, Bool, true, false, cond, List, [], ◌∷◌, ltb, length, get_or, Result, Err, Ok}
+use Rattle.refusal.specs.declared.Refusal.{Refusal}
 use Rattle.lists.specs.Places.{count_below}
 use Rattle.refusal.specs.declared.Reason.TheVariants.{WrongSize}
-use Rattle.refusal.specs.Outcome.{Outcome, refused, accepted, refuse, refused_with, mapped}
+use Rattle.refusal.specs.Outcome.{Outcome, refused, accepted, refuse, refused_with, mapped, outcome_of}
 use Rattle.pulse.specs.declared.Class.{Class}
 use Rattle.byte.specs.Byte.{byte_at, is_bad_by}
 use Rattle.start.specs.declared.Copies.{Copies}
@@ -14,10 +15,8 @@ use Rattle.block.specs.declared.Tally.{Tally}
 use Rattle.block.specs.declared.Look.{Look}
 use Rattle.block.specs.declared.PlaceRead.{PlaceRead}
 use Rattle.block.specs.declared.PlaceRead.TheVariants.{One, Two, Neither}
-use Rattle.block.specs.declared.PlaceAnswer.{PlaceAnswer}
-use Rattle.block.specs.declared.PlaceAnswer.TheVariants.{Accepted, Refused}
 use Rattle.block.specs.Block.{wrong_size}
-use Rattle.block.specs.Reading.{Place, FromOne, FromTwo, Lost, no_value, place_at, extent_of, read_copies, block_answer}
+use Rattle.block.specs.Reading.{Place, FromOne, FromTwo, Lost, no_value, place_at, extent_of, read_copies}
 
 -- ---- Where the values come from
 
@@ -103,7 +102,7 @@ look_at cs p n = looked_at (copies_at (length cs) p n) cs p n
 
 -- what is told
 abbrev pub look_answer : Look → Looked
-look_answer l = record { outcome = block_answer l.answer; tally = l.tally }
+look_answer l = record { outcome = outcome_of l.answer; tally = l.tally }
 
 -- ---- One place
 
@@ -120,6 +119,6 @@ place_read (Two v) = FromTwo v
 place_read (Neither causes) = Lost causes
 
 -- what is answered
-abbrev pub place_answer : PlaceAnswer → Outcome Place
-place_answer (Accepted read) = accepted (place_read read)
-place_answer (Refused r) = refused_with r
+abbrev pub place_answer : Result PlaceRead Refusal → Outcome Place
+place_answer (Ok read) = accepted (place_read read)
+place_answer (Err r) = refused_with r

@@ -1,9 +1,10 @@
 -- Reading a block (document 01, 'Reading a block'), on the classes of a strip: rules 3 to 5. Rules 1 and 2 are those of `start`.
-use Rattle.std.specs.Prelude.{ℕ, ◌+◌, ◌-◌, Bool, true, false, cond, not, ◌||◌, List, eqb, length}
+use Rattle.std.specs.Prelude.{ℕ, ◌+◌, ◌-◌, Bool, true, false, cond, not, ◌||◌, List, eqb, length, Result}
+use Rattle.refusal.specs.declared.Refusal.{Refusal}
 use Rattle.lists.specs.Places.{first_from, tabulate}
 use Rattle.refusal.specs.declared.Causes.{Causes}
 use Rattle.refusal.specs.declared.Reason.TheVariants.{WrongSize, WrongCountdown, LostByte, WrongChecksum}
-use Rattle.refusal.specs.Outcome.{Outcome, accepted, refuse, refuse_there, refuse_first, if_room, refused_with, and_then}
+use Rattle.refusal.specs.Outcome.{Outcome, accepted, refuse, refuse_there, refuse_first, if_room, outcome_of, and_then}
 use Rattle.refusal.specs.Promise.{Answers, Fills, itself}
 use Rattle.pulse.specs.declared.Class.{Class}
 use Rattle.byte.specs.declared.ByteRead.{ByteRead}
@@ -12,8 +13,6 @@ use Rattle.byte.specs.Byte.{byte_at, is_good}
 use Rattle.start.specs.Start.{find_start}
 use Rattle.start.specs.Copies.{byte_place, copy_two, end_of, locate_copies}
 use Rattle.block.specs.declared.Extent.{Extent}
-use Rattle.block.specs.declared.BlockAnswer.{BlockAnswer}
-use Rattle.block.specs.declared.BlockAnswer.TheVariants.{Accepted, Refused}
 use Rattle.block.specs.Block.{checksum, first_byte, wrong_size}
 
 -- ---- Rule 3: the countdown
@@ -117,11 +116,6 @@ read_block cs room from n =
     cond (wrong_size n) (refuse WrongSize 0)
     (if_room room n (read_from cs from n))
 
--- what the reader answers
-abbrev pub block_answer : BlockAnswer → Outcome Extent
-block_answer (Accepted extent) = accepted extent
-block_answer (Refused r) = refused_with r
-
 -- what a reader promises: it answers r and leaves out' in the buffer that held out, as the outcome says
-abbrev pub BlockPromise : (o : Outcome BlockRead) (out : List ℕ) (r : BlockAnswer) (out' : List ℕ) → Type 0
-BlockPromise o out r out' = Answers itself extent_of o (block_answer r) × Fills payload_of o out out'
+abbrev pub BlockPromise : (o : Outcome BlockRead) (out : List ℕ) (r : Result Extent Refusal) (out' : List ℕ) → Type 0
+BlockPromise o out r out' = Answers itself extent_of o (outcome_of r) × Fills payload_of o out out'

@@ -6,6 +6,7 @@
 // The checksum is $00 XORed with each payload byte. A copy has n + 10 byte places of twenty pulses each.
 #![tactic(auto)]
 
+mod copies;
 mod flags;
 mod looking;
 mod rules;
@@ -13,17 +14,18 @@ mod values;
 mod write;
 
 ghost use Rattle.std.specs.Prelude.{◌≡◌, length};
-ghost use Rattle.refusal.specs.Promise.{put_answer, Written};
+ghost use Rattle.refusal.specs.Outcome.{outcome_of};
+ghost use Rattle.refusal.specs.Promise.{Written};
 ghost use Rattle.pulse.specs.Pulse.{fixed, classes};
 ghost use Rattle.block.specs.Block.{wrong_size, wrong_leader, measure_block, write_block};
-ghost use Rattle.start.specs.Start.{find_start, found_answer};
-ghost use Rattle.start.specs.Copies.{copies_answer};
-ghost use Rattle.block.specs.Reading.{read_block, BlockPromise};
-ghost use Rattle.block.specs.Looking.{no_bad, copies_at, look_at, look_answer, read_place, place_answer};
+ghost use Rattle.start.specs.Start.{find_start, start_at};
+ghost use Rattle.block.specs.Reading.{place_value, read_block, BlockPromise};
+ghost use Rattle.block.specs.Looking.{no_bad, copies_at, look_at, look_answer, place_read, read_place, place_answer};
 
+use copies::BothCopies;
 use pulse::Thresholds;
-use refusal::{Causes, Put, Reason, Refusal};
-use start::{CopiesAnswer, Found};
+use refusal::{Causes, Reason, Refusal};
+use start::Copies;
 
 // The largest payload.
 pub const MOST_BYTES: usize = 8192;
@@ -46,17 +48,10 @@ pub struct Extent {
     pub end: usize,
 }
 
-// What the block reader answers.
-#[derive(Clone, Copy)]
-pub enum BlockAnswer {
-    Accepted(Extent),
-    Refused(Refusal),
-}
-
 // How many bytes are bad by each cause: by the marker, by one of the eight bits, by the parity bit, and by the number of ones. They stand in
 // the order of their numbers, for C too; no contract sees that order, the tests do.
 #[repr(C)]
-#[derive(Clone, Copy)]
+#[derive(Clone, Copy, Default)]
 pub struct ByCause {
     pub marker: u64,
     pub bit0: u64,
@@ -75,25 +70,13 @@ impl ByCause {
     pub fn none() -> ByCause
         ensures { result ≡ no_bad }
     {
-        ByCause {
-            marker: 0,
-            bit0: 0,
-            bit1: 0,
-            bit2: 0,
-            bit3: 0,
-            bit4: 0,
-            bit5: 0,
-            bit6: 0,
-            bit7: 0,
-            parity: 0,
-            ones: 0,
-        }
+        ByCause::default()
     }
 }
 
 // How many of the places 0 to n of a block, the checksum's among them, are taken from copy one, are taken from copy two, and are lost; and how
 // many bytes of both copies at these places are bad, by their causes.
-#[derive(Clone, Copy)]
+#[derive(Clone, Copy, Default)]
 pub struct Tally {
     pub one: usize,
     pub two: usize,
@@ -104,7 +87,7 @@ pub struct Tally {
 // What looking at a block tells: what the block reader would answer, where the values come from, and the bad bytes.
 #[derive(Clone, Copy)]
 pub struct Look {
-    pub answer: BlockAnswer,
+    pub answer: Result<Extent, Refusal>,
     pub tally: Tally,
 }
 
@@ -116,64 +99,64 @@ pub enum PlaceRead {
     Neither(Causes),
 }
 
-// What reading one place answers.
-#[derive(Clone, Copy)]
-pub enum PlaceAnswer {
-    Accepted(PlaceRead),
-    Refused(Refusal),
-}
-
-// The number of pulses that a block of n payload bytes takes, with a leader of that many. It refuses a payload or a leader of a wrong
-// size, as `write_block` does.
-pub fn measure_block(n: usize, leader: usize) -> Put
-    ensures { put_answer result ≡ measure_block leader n }
-{
-    if wrong_size(n) {
-        return Put::Refused(refusal::at(Reason::WrongSize, 0));
-    }
-    if wrong_leader(leader) {
-        return Put::Refused(refusal::at(Reason::WrongLeader, 0));
-    }
-    Put::Count(leader + 2 * (byte::BYTE_PULSES * (n + start::EXTRA_BYTES) + start::TRAILER_PULSES))
-}
-
-// Writes a block with a leader of that many short pulses, and answers the number of pulses put. It refuses a payload or a leader of
-// a wrong size and an output that is too short.
-pub fn write_block(payload: &[u8], leader: usize, out: &mut [u32]) -> Put
-    ensures { Written (write_block (length out.old) leader payload.now) out.old result out.new }
-{
-    match measure_block(payload.len(), leader) {
-        Put::Refused(r) => Put::Refused(r),
-        Put::Count(count) => {
-            if out.len() < count {
-                return Put::Refused(refusal::at(Reason::NoRoom, 0));
-            }
-            write::put_block(payload, leader, out);
-            Put::Count(count)
+impl PlaceRead {
+    // The value, which is 0 where the place is lost.
+    pub fn value(self) -> u8
+        ensures { result ≡ place_value (place_read self) }
+    {
+        match self {
+            PlaceRead::One(value) => value,
+            PlaceRead::Two(value) => value,
+            PlaceRead::Neither(_) => 0,
         }
     }
 }
 
+// The number of pulses that a block of n payload bytes takes, with a leader of that many. It refuses a payload or a leader of a wrong
+// size, as `write_block` does.
+pub fn measure_block(n: usize, leader: usize) -> Result<usize, Refusal>
+    ensures { outcome_of result ≡ measure_block leader n }
+{
+    if wrong_size(n) {
+        return Err(Reason::WrongSize.into());
+    }
+    if wrong_leader(leader) {
+        return Err(Reason::WrongLeader.into());
+    }
+    Ok(leader + 2 * (byte::BYTE_PULSES * (n + start::EXTRA_BYTES) + start::TRAILER_PULSES))
+}
+
+// Writes a block with a leader of that many short pulses, and answers the number of pulses put. It refuses a payload or a leader of
+// a wrong size and an output that is too short.
+pub fn write_block(payload: &[u8], leader: usize, out: &mut [u32]) -> Result<usize, Refusal>
+    ensures { Written (write_block (length out.old) leader payload.now) out.old result out.new }
+{
+    let count = measure_block(payload.len(), leader)?;
+    if out.len() < count {
+        return Err(Reason::NoRoom.into());
+    }
+    write::put_block(payload, leader, out);
+    Ok(count)
+}
+
 // Reads the block of n payload bytes whose start is the first at or after `from`, and puts its payload. It refuses a wrong n, an output
 // that is too short, a strip with no start, and a block that is cut short or damaged beyond repair.
-pub fn read_block(strip: &[u32], from: usize, n: usize, out: &mut [u8]) -> BlockAnswer
+pub fn read_block(strip: &[u32], from: usize, n: usize, out: &mut [u8]) -> Result<Extent, Refusal>
     ensures { BlockPromise (read_block (classes fixed strip.now) (length out.old) from n) out.old result out.new }
 {
     if wrong_size(n) {
-        return rules::refused(Reason::WrongSize, 0);
+        return Err(Reason::WrongSize.into());
     }
     if out.len() < n {
-        return rules::refused(Reason::NoRoom, 0);
+        return Err(Reason::NoRoom.into());
     }
-    let Found::At(start) = start_from(strip, from) else {
-        return rules::refused(Reason::NoStart, 0);
-    };
+    let start = start_from(strip, from).ok_or(Reason::NoStart)?;
     rules::read_at(Thresholds::fixed(), strip, start, n, out)
 }
 
 // The first start at or after `from`.
-pub fn start_from(strip: &[u32], from: usize) -> Found
-    ensures { found_answer result ≡ find_start (classes fixed strip.now) from }
+pub fn start_from(strip: &[u32], from: usize) -> Option<usize>
+    ensures { start_at result ≡ find_start (classes fixed strip.now) from }
 {
     start::find_start(Thresholds::fixed(), strip, from)
 }
@@ -184,40 +167,29 @@ pub fn look_at(strip: &[u32], start: usize, n: usize) -> Look
     ensures { look_answer result ≡ look_at (classes fixed strip.now) start n }
 {
     match copies_at(strip.len(), start, n) {
-        CopiesAnswer::Refused(r) => looking::refused(r),
-        CopiesAnswer::Accepted(copies) => looking::look_copies(
-            Thresholds::fixed(),
-            strip,
-            copies,
-            n,
-        ),
+        Err(r) => looking::refused(r),
+        Ok(copies) => BothCopies::new(Thresholds::fixed(), strip, copies, n).look(),
     }
 }
 
 // Place i of such a block, by rule 4: a payload byte, or the checksum where i is n. It refuses a wrong n, an i above n, and a strip that ends
 // before copy two does.
-pub fn place_at(strip: &[u32], start: usize, n: usize, i: usize) -> PlaceAnswer
+pub fn place_at(strip: &[u32], start: usize, n: usize, i: usize) -> Result<PlaceRead, Refusal>
     ensures { place_answer result ≡ read_place (classes fixed strip.now) start n i }
 {
     if n < i {
-        return PlaceAnswer::Refused(refusal::at(Reason::WrongSize, 0));
+        return Err(Reason::WrongSize.into());
     }
-    match copies_at(strip.len(), start, n) {
-        CopiesAnswer::Refused(r) => PlaceAnswer::Refused(r),
-        CopiesAnswer::Accepted(copies) => {
-            let one = copies.one;
-            let two = copies.two;
-            PlaceAnswer::Accepted(looking::place_in(Thresholds::fixed(), strip, one, two, i))
-        }
-    }
+    let copies = copies_at(strip.len(), start, n)?;
+    Ok(BothCopies::new(Thresholds::fixed(), strip, copies, n).read_place(i))
 }
 
 // Where the copies lie, on a strip of that many pulses. It refuses a wrong n and a strip that ends before copy two does.
-fn copies_at(count: usize, start: usize, n: usize) -> CopiesAnswer
-    ensures { copies_answer result ≡ copies_at count start n }
+fn copies_at(count: usize, start: usize, n: usize) -> Result<Copies, Refusal>
+    ensures { outcome_of result ≡ copies_at count start n }
 {
     if wrong_size(n) {
-        return CopiesAnswer::Refused(refusal::at(Reason::WrongSize, 0));
+        return Err(Reason::WrongSize.into());
     }
     start::locate_copies(count, start, n)
 }

@@ -1,69 +1,105 @@
 // The values of a block that passed. In a group without a repaired place no byte is checked again. What is here is here for speed.
-ghost use Rattle.std.specs.Prelude.{◌+◌, ◌-◌, ◌*◌, ◌≤◌, ◌<◌, ◌≡◌, false, cond, ltb, length};
+ghost use Rattle.std.specs.Prelude.{◌-◌, ◌≤◌, ◌<◌, ◌≡◌, false, cond, ltb, length};
 ghost use Rattle.std.proofs.lemmas.List.Edits.{sets};
 ghost use Rattle.lists.specs.Places.{tabulate};
 ghost use Rattle.pulse.specs.Pulse.{classes};
-ghost use Rattle.start.specs.Copies.{copy_pulses};
 ghost use Rattle.block.specs.Reading.{is_lost, value_at, values_at};
-ghost use Rattle.block.specs.private.Values.{bits_at, bits_of, HoldsBits};
+ghost use Rattle.block.specs.private.Values.{bits_of, HoldsBits};
 ghost use Rattle.block.specs.private.Checks.{repairs, Flagged, SameFlags, NoneLost};
 
+use super::copies::BothCopies;
 use super::flags;
-use byte::FrameRead;
-use pulse::{Cycles, Thresholds};
+use pulse::Cycles;
 use start::COUNTDOWN_BYTES;
 
-// Puts the values of a block that passed: the bits of one copy, and where some places are repaired and some are not, the runs with a repaired
-// one again.
-pub fn fill_values(
-    t: Thresholds,
-    strip: &[u32],
-    one: usize,
-    two: usize,
-    n: usize,
-    repaired: usize,
-    row: &[u8],
-    out: &mut [u8],
-)
-    requires within { (one ≤ two) × (two + copy_pulses n ≤ length strip.now) × (n ≤ length out.old) }
-    requires none_lost { NoneLost (classes t strip.now) one two n × (repaired ≡ repairs (classes t strip.now) one two n) × Flagged (classes t strip.now) one two n row.now }
-    ensures { out.new ≡ sets out.old 0 (values_at (classes t strip.now) one two n) }
-{
-    fill_copy(t, strip, whole_copy(one, two, n, repaired), 0, n, out);
-    if (repaired == 0) | (n < repaired) {
-        return;
-    }
-    mend_runs(t, strip, one, two, n, row, out);
-}
-
-// The copy whose bits are put first: copy two where every place is repaired, else copy one.
-fn whole_copy(one: usize, two: usize, n: usize, repaired: usize) -> usize
-    ensures { result ≡ cond (ltb n repaired) two one }
-{
-    if n < repaired { two } else { one }
-}
-
-// Puts the values run by run into a buffer that holds copy one's bits. In a run whose flags are down these are the values.
-fn mend_runs(
-    t: Thresholds,
-    strip: &[u32],
-    one: usize,
-    two: usize,
-    n: usize,
-    row: &[u8],
-    out: &mut [u8],
-)
-    requires within { (one ≤ two) × (two + copy_pulses n ≤ length strip.now) × (n ≤ length out.old) }
-    requires none_lost { NoneLost (classes t strip.now) one two n × Flagged (classes t strip.now) one two n row.now × HoldsBits t strip.now one n out.old 0 }
-    ensures { out.new ≡ sets out.old 0 (values_at (classes t strip.now) one two n) }
-{
-    let mut i: usize = 0;
-    while i < n {
-        let end = run_end(row, i, n);
-        if flags::flag(row, i / flags::GROUP_PLACES) {
-            fill_places(t, strip, one, two, i, end, out);
+impl<'a> BothCopies<'a> {
+    // Puts the values of a block that passed: the bits of one copy, and where some places are repaired and some are not, the runs with a repaired
+    // one again.
+    pub fn fill_values(&self, repaired: usize, row: &[u8], out: &mut [u8])
+        requires room { self.now.n ≤ length out.old }
+        requires none_lost { NoneLost (classes self.now.t self.now.strip.now) self.now.one self.now.two self.now.n × (repaired ≡ repairs (classes self.now.t self.now.strip.now) self.now.one self.now.two self.now.n) × Flagged (classes self.now.t self.now.strip.now) self.now.one self.now.two self.now.n row.now }
+        ensures { out.new ≡ sets out.old 0 (values_at (classes self.now.t self.now.strip.now) self.now.one self.now.two self.now.n) }
+    {
+        self.fill_copy(self.whole_copy(repaired), 0, self.n, out);
+        if (repaired == 0) | (self.n < repaired) {
+            return;
         }
-        i = end;
+        self.mend_runs(row, out);
+    }
+
+    // The copy whose bits are put first: copy two where every place is repaired, else copy one.
+    fn whole_copy(&self, repaired: usize) -> usize
+        ensures { result ≡ cond (ltb self.now.n repaired) self.now.two self.now.one }
+    {
+        if self.n < repaired {
+            self.two
+        } else {
+            self.one
+        }
+    }
+
+    // Puts the values run by run into a buffer that holds copy one's bits. In a run whose flags are down these are the values.
+    fn mend_runs(&self, row: &[u8], out: &mut [u8])
+        requires room { self.now.n ≤ length out.old }
+        requires none_lost { NoneLost (classes self.now.t self.now.strip.now) self.now.one self.now.two self.now.n × Flagged (classes self.now.t self.now.strip.now) self.now.one self.now.two self.now.n row.now × HoldsBits self.now.t self.now.strip.now self.now.one self.now.n out.old 0 }
+        ensures { out.new ≡ sets out.old 0 (values_at (classes self.now.t self.now.strip.now) self.now.one self.now.two self.now.n) }
+    {
+        // The place goes on by runs, so no `for` counts it.
+        let mut i: usize = 0;
+        while i < self.n {
+            let end = run_end(row, i, self.n);
+            if flags::flag(row, i / flags::GROUP_PLACES) {
+                self.fill_places(i, end, out);
+            }
+            i = end;
+        }
+    }
+
+    // Puts the bits of one copy's bytes, from place `from` to before `end`. No byte is checked.
+    fn fill_copy(&self, copy: usize, from: usize, end: usize, out: &mut [u8])
+        requires { (copy ≤ self.now.two) × (from ≤ end) × (end ≤ self.now.n) × (end ≤ length out.old) }
+        ensures { out.new ≡ sets out.old from (tabulate (bits_of self.now.t self.now.strip.now copy) (end - from) from) }
+    {
+        for i in from..end {
+            out[i] = self.bits(copy, i);
+        }
+    }
+
+    // Puts the values from place `from` to before `end`. Copy one's bytes are checked again.
+    fn fill_places(&self, from: usize, end: usize, out: &mut [u8])
+        requires within { (from ≤ end) × (end ≤ self.now.n) × (end ≤ length out.old) }
+        requires none_lost { NoneLost (classes self.now.t self.now.strip.now) self.now.one self.now.two self.now.n }
+        ensures { out.new ≡ sets out.old from (tabulate (value_at (classes self.now.t self.now.strip.now) self.now.one self.now.two) (end - from) from) }
+    {
+        for i in from..end {
+            out[i] = self.sound_value(i);
+        }
+    }
+
+    // The value of a place that is not lost: copy one's byte where it is good, else copy two's bits.
+    fn sound_value(&self, i: usize) -> u8
+        requires { (i ≤ self.now.n) × (is_lost (classes self.now.t self.now.strip.now) self.now.one self.now.two i ≡ false) }
+        ensures { result ≡ value_at (classes self.now.t self.now.strip.now) self.now.one self.now.two i }
+    {
+        let Some(value) = self.value(self.one, COUNTDOWN_BYTES + i) else {
+            return self.bits(self.two, i);
+        };
+        value
+    }
+
+    // The value of the byte at place i of a copy, which is known to be good, by the first pulse of each bit's pair: 1 where that is not below the
+    // medium threshold.
+    fn bits(&self, copy: usize, i: usize) -> u8
+        requires { (copy ≤ self.now.two) × (i ≤ self.now.n) }
+        ensures { result ≡ bits_of self.now.t self.now.strip.now copy i }
+    {
+        let at = copy + byte::BYTE_PULSES * (COUNTDOWN_BYTES + i);
+        let mut value: u8 = 0;
+        for bit in 0..byte::BITS {
+            let first = Cycles(self.strip[at + byte::PAIR_PULSES * (1 + bit)]);
+            value = value | ((self.t.medium.0 <= first.0) as u8) << bit;
+        }
+        value
     }
 }
 
@@ -74,77 +110,10 @@ fn run_end(row: &[u8], i: usize, n: usize) -> usize
 {
     let up = flags::flag(row, i / flags::GROUP_PLACES);
     let last = (n - 1) / flags::GROUP_PLACES;
-    let mut group = i / flags::GROUP_PLACES + 1;
-    while group <= last {
+    for group in i / flags::GROUP_PLACES + 1..=last {
         if flags::flag(row, group) != up {
             return flags::GROUP_PLACES * group;
         }
-        group = group + 1;
     }
     n
-}
-
-// Puts the bits of one copy's bytes, from place `from` to before `end`. No byte is checked.
-fn fill_copy(t: Thresholds, strip: &[u32], copy: usize, from: usize, end: usize, out: &mut [u8])
-    requires { (from ≤ end) × (copy + 20 * (9 + end) ≤ length strip.now) × (end ≤ length out.old) }
-    ensures { out.new ≡ sets out.old from (tabulate (bits_of t strip.now copy) (end - from) from) }
-{
-    let mut i: usize = from;
-    while i < end {
-        let value = bits_at(t, strip, copy + byte::BYTE_PULSES * (COUNTDOWN_BYTES + i));
-        out[i] = value;
-        i = i + 1;
-    }
-}
-
-// Puts the values from place `from` to before `end`. Copy one's bytes are checked again.
-fn fill_places(
-    t: Thresholds,
-    strip: &[u32],
-    one: usize,
-    two: usize,
-    from: usize,
-    end: usize,
-    out: &mut [u8],
-)
-    requires within { (from ≤ end) × (one ≤ two) × (two + 20 * (9 + end) ≤ length strip.now) × (end ≤ length out.old) }
-    requires none_lost { NoneLost (classes t strip.now) one two end }
-    ensures { out.new ≡ sets out.old from (tabulate (value_at (classes t strip.now) one two) (end - from) from) }
-{
-    let mut i: usize = from;
-    while i < end {
-        let value = value_at(t, strip, one, two, i);
-        out[i] = value;
-        i = i + 1;
-    }
-}
-
-// The value of a place that is not lost: copy one's byte where it is good, else copy two's bits.
-fn value_at(t: Thresholds, strip: &[u32], one: usize, two: usize, i: usize) -> u8
-    requires { (one ≤ two) × (two + 20 * (10 + i) ≤ length strip.now) × (is_lost (classes t strip.now) one two i ≡ false) }
-    ensures { result ≡ value_at (classes t strip.now) one two i }
-{
-    let at = byte::BYTE_PULSES * (COUNTDOWN_BYTES + i);
-    let FrameRead::Value(value) = byte::read_frame(
-        t,
-        &strip[one + at..one + at + byte::BYTE_PULSES],
-    ) else {
-        return bits_at(t, strip, two + at);
-    };
-    value
-}
-
-// The value of a byte that is known to be good, by the first pulse of each bit's pair: 1 where that is not below the medium threshold.
-fn bits_at(t: Thresholds, strip: &[u32], at: usize) -> u8
-    requires { at + 20 ≤ length strip.now }
-    ensures { result ≡ bits_at t strip.now at }
-{
-    let mut value: u8 = 0;
-    let mut i: usize = 0;
-    while i < byte::BITS {
-        let first = Cycles(strip[at + byte::PAIR_PULSES * (1 + i)]);
-        value = value | ((t.medium.0 <= first.0) as u8) << i;
-        i = i + 1;
-    }
-    value
 }

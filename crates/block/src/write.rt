@@ -1,4 +1,4 @@
-// The parts of a block, put one after the other.
+// The parts of a block, put one after the other. A buffer and a place go in, as in `byte/src/write.rt`.
 ghost use Rattle.std.specs.Prelude.{◌+◌, ◌*◌, ◌≤◌, ◌<◌, ◌≡◌, length, replicate};
 ghost use Rattle.std.proofs.lemmas.List.Edits.{sets};
 ghost use Rattle.pulse.specs.declared.Class.TheVariants.{Short};
@@ -28,11 +28,10 @@ pub fn put_block(payload: &[u8], leader: usize, out: &mut [u32])
 fn checksum_of(payload: &[u8]) -> u8
     ensures { result ≡ checksum payload.now }
 {
+    // With `fold` the proof did not close: its closure changes with each byte.
     let mut sum: u8 = 0;
-    let mut i: usize = 0;
-    while i < payload.len() {
-        sum = sum ^ payload[i];
-        i = i + 1;
+    for byte in payload {
+        sum ^= *byte;
     }
     sum
 }
@@ -42,14 +41,10 @@ fn put_shorts(out: &mut [u32], at: usize, count: usize)
     ensures { out.new ≡ sets out.old at (pulses (replicate count Short)) }
 {
     let short = pulse::written_as(Class::Short);
-    let mut i: usize = 0;
-    while i < count {
-        out[at + i] = short.0;
-        i = i + 1;
-    }
+    out[at..at + count].fill(short.0);
 }
 
-// Puts copy one, which is copy 0 here, or copy two, which is copy 1.
+// Puts copy one, which is copy 0 here, or copy two, which is copy 1: the index into the countdowns.
 fn put_copy(out: &mut [u32], at: usize, copy: usize, payload: &[u8], sum: u8)
     requires small { (copy < 2) × (at + copy_pulses (length payload.now) ≤ length out.old) }
     requires summed { sum ≡ checksum payload.now }
@@ -67,7 +62,8 @@ fn put_bytes(values: &[u8], out: &mut [u32], at: usize)
     requires { at + 20 * length values.now ≤ length out.old }
     ensures { out.new ≡ sets out.old at (bytes_pulses values.now) }
 {
-    byte::write_bytes(values, &mut out[at..]);
+    // The room is there, so nothing is refused.
+    let _ = byte::write_bytes(values, &mut out[at..]);
 }
 
 fn put_trailer(out: &mut [u32], at: usize)

@@ -2,7 +2,7 @@
 use Rattle.std.proofs.Common.{◌≡◌, ℕ, zero, suc, ◌+◌, ◌-◌, ◌*◌, ◌/◌, ◌%◌, ◌<◌, ◌≤◌, true, cond, ◌&&◌, List, [], ◌∷◌, ◌++◌, length, get_or, take, drop, sym, refl, ap, ◌∙◌, ap₂, inl, inr, add-zero, add-one, arith, lit<, lit≤, length-drop, length-take, get_or-drop, drop-cons, get_or-take, take-take, eq-eqb, ne_eqb, eqb-true}
 use native.Mathlib.Numerals.{add-two}
 use native.Mathlib.Decide.{dec_le}
-use mathlib.Core.Option.{Option, none, some}
+use Rattle.std.specs.Prelude.{Option, None, Some}
 use borrow.Author.Tests.{not-true, not-false}
 use lib.Count.{ones}
 use lib.ListN.{length-map}
@@ -75,17 +75,17 @@ bits-value f h (suc count) at =
     let q : (f at + 2 * w) / 2 ≡ w = omega (arith, h at) in
     rw (m, q, bits-value f h count (suc at))
 
-checked-good : (o : Option ℕ) (w d v : ℕ) → checked o w d ≡ Good v → (o ≡ none) × (w ≡ v) × (is_odd (ones w + d) ≡ true)
-checked-good none w d v e =
+checked-good : (o : Option ℕ) (w d v : ℕ) → checked o w d ≡ Good v → (o ≡ None) × (w ≡ v) × (is_odd (ones w + d) ≡ true)
+checked-good None w d v e =
     let h = cond-first (is_odd (ones w + d)) (Good w) (Bad 10) (Good v) (λ n. let z : ◌≡◌ {A = ℕ} 0 1 = cc in omega arith) e in
     (refl, cc, h.0)
-checked-good (some i) w d v e = absurd (let z : ◌≡◌ {A = ℕ} 0 1 = cc in omega arith)
+checked-good (Some i) w d v e = absurd (let z : ◌≡◌ {A = ℕ} 0 1 = cc in omega arith)
 
 module _ (ys : List Class) (v : ℕ) (e : byte_of ys ≡ Good v) where
   abbrev value : ℕ
   value = value_of (tabulate (nth_bit ys) 8 1)
 
-  pub good-parts : (first_from (wrong_pair ys) 10 0 ≡ none) × (value ≡ v) × (is_odd (ones value + nth_bit ys 9) ≡ true)
+  pub good-parts : (first_from (wrong_pair ys) 10 0 ≡ None) × (value ≡ v) × (is_odd (ones value + nth_bit ys 9) ≡ true)
   unfolding byte_of
   good-parts = checked-good (first_from (wrong_pair ys) 10 0) value (nth_bit ys 9) v e
 

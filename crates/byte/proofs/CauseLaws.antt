@@ -1,6 +1,6 @@
 -- Laws of the cause of a bad byte.
 use Rattle.std.proofs.Common.{◌≡◌, ℕ, zero, suc, ◌+◌, ◌-◌, ◌*◌, ◌<◌, ◌≤◌, Bool, true, false, cond, not, ◌&&◌, ◌||◌, List, [], ◌∷◌, length, get_or, drop, sym, refl, ap, ◌∙◌, arith, lit≤, length-drop, length-take, take_all, eq-eqb, ne_eqb}
-use mathlib.Core.Option.{Option, none, some}
+use Rattle.std.specs.Prelude.{Option, None, Some}
 use lib.Count.{ones}
 use lib.ListN.{length-map}
 use Rattle.lists.specs.Places.{first_from, part}
@@ -12,7 +12,6 @@ use Rattle.pulse.specs.declared.Class.TheVariants.{Short, Medium, Long}
 use Rattle.pulse.specs.Pulse.{class_of, classes, same}
 use Rattle.byte.specs.declared.ByteRead.{ByteRead}
 use Rattle.byte.specs.declared.ByteRead.TheVariants.{Good, Bad}
-use Rattle.byte.specs.declared.FrameRead.TheVariants.{Value, None}
 use Rattle.byte.specs.Byte.{is_odd, pair_of, is_sound, pair_at, wrong_pair, checked, byte_of, value_in, read_frame, or_ten, first_wrong, twenty, byte_at, is_bad}
 use Rattle.byte.proofs.PairLaws.{pair-past, pair-there}
 use Rattle.byte.proofs.ByteLaws.{byte_at-fewer, read_frame-part}
@@ -20,12 +19,12 @@ use Rattle.byte.proofs.ByteLaws.{byte_at-fewer, read_frame-part}
 -- ---- The cause of a bad byte is its first wrong pair, or 10
 
 checked-bad : (o : Option ℕ) (w d : ℕ) → is_bad (checked o w d) ≡ true → checked o w d ≡ Bad (or_ten o)
-checked-bad none w d e = go (is_odd (ones w + d)) e
+checked-bad None w d e = go (is_odd (ones w + d)) e
   where
     go : (odd : Bool) → is_bad (cond odd (Good w) (Bad 10)) ≡ true → cond odd (Good w) (Bad 10) ≡ Bad 10
     go true e = absurd (let z : ◌≡◌ {A = ℕ} 0 1 = cc in omega arith)
     go false e = refl
-checked-bad (some i) w d e = refl
+checked-bad (Some i) w d e = refl
 
 pub byte_of-bad : (ys : List Class) → is_bad (byte_of ys) ≡ true → byte_of ys ≡ Bad (first_wrong ys)
 unfolding byte_of first_wrong
@@ -36,9 +35,9 @@ pub byte_at-bad : (cs : List Class) (p : ℕ) → is_bad (byte_at cs p) ≡ true
 unfolding byte_at
 byte_at-bad cs p e = byte_of-bad (twenty cs p) e
 
-or_ten-most : (o : Option ℕ) → ((i : ℕ) → o ≡ some i → i < 10) → or_ten o ≤ 10
-or_ten-most none h = lit≤ tt
-or_ten-most (some i) h = omega (arith, h i refl)
+or_ten-most : (o : Option ℕ) → ((i : ℕ) → o ≡ Some i → i < 10) → or_ten o ≤ 10
+or_ten-most None h = lit≤ tt
+or_ten-most (Some i) h = omega (arith, h i refl)
 
 pub first_wrong-most : (ys : List Class) → first_wrong ys ≤ 10
 unfolding first_wrong
@@ -56,7 +55,7 @@ pub value_in-none : (r : ByteRead) → None ≡ value_in r → is_bad r ≡ true
 value_in-none (Good v) e = absurd (let z : ◌≡◌ {A = ℕ} 0 1 = cc in omega arith)
 value_in-none (Bad cause) e = refl
 
-pub value_in-good : (r : ByteRead) (v : ℕ) → Value v ≡ value_in r → Good v ≡ r
+pub value_in-good : (r : ByteRead) (v : ℕ) → Some v ≡ value_in r → Good v ≡ r
 value_in-good (Good w) v e = cc
 value_in-good (Bad cause) v e = absurd (let z : ◌≡◌ {A = ℕ} 0 1 = cc in omega arith)
 
@@ -119,7 +118,7 @@ module _ (t : Thresholds) (strip : List ℕ) (at : ℕ) where
       bad-there (at + 20 - at) frame-there (value_in-none (byte_at cs at) (e ∙ read_frame-part t strip at h))
 
   -- one with a value
-  pub value_there : (v : ℕ) → at + 20 ≤ length strip → Value v ≡ read_frame (classes t (part strip at (at + 20 - at))) → Good v ≡ byte_at cs at
+  pub value_there : (v : ℕ) → at + 20 ≤ length strip → Some v ≡ read_frame (classes t (part strip at (at + 20 - at))) → Good v ≡ byte_at cs at
   value_there v h e = value_in-good (byte_at cs at) v (e ∙ read_frame-part t strip at h)
 
 -- no pulse is left

@@ -1,7 +1,7 @@
 -- Why a byte is bad: the proof of the claims in the specs' `Cause`.
 use Rattle.std.proofs.Common.{◌≡◌, ℕ, ◌+◌, ◌*◌, ◌/◌, ◌<◌, ◌≤◌, Bool, true, false, cond, not, ◌⊎◌, List, length, take, sym, refl, ap, ◌∙◌, ap₂, inl, inr, add_comm, arith, length-take, get_or-take}
 use native.Mathlib.Decide.{dec_le}
-use mathlib.Core.Option.{Option, none, some}
+use Rattle.std.specs.Prelude.{Option, None, Some}
 use lib.Count.{ones}
 use Rattle.lists.specs.Places.{first_from, First, count_below, tabulate}
 use Rattle.lists.proofs.PlaceLaws.{some_first, first_some, none_first, first-none}
@@ -44,8 +44,8 @@ module _ (ys : List Class) where
   none-or-first = go (first_from (wrong_pair ys) 10 0) refl
     where
       go : (o : Option ℕ) → first_from (wrong_pair ys) 10 0 ≡ o → NoneWrong ys ⊎ ((i : ℕ) × (i < 10) × WrongFirst ys i)
-      go none e = inl (λ j h. none_first (wrong_pair ys) 10 0 e j (omega arith) (omega arith))
-      go (some i) e =
+      go None e = inl (λ j h. none_first (wrong_pair ys) 10 0 e j (omega arith) (omega arith))
+      go (Some i) e =
           let f = some_first (wrong_pair ys) 10 0 i e in
           inr (i, omega arith, (f.passes, λ j h. f.least j (omega arith) h))
 

@@ -1,7 +1,7 @@
 -- Laws of a frame that is read at once: what the word says of the pairs is what their classes say.
-use Rattle.std.proofs.Common.{◌≡◌, ℕ, zero, suc, ◌+◌, ◌-◌, ◌*◌, ◌/◌, ◌%◌, ◌^◌, ◌<◌, ◌≤◌, Bool, true, false, cond, not, ◌&&◌, ◌||◌, eqb, ltb, leb, List, [], ◌∷◌, map, length, get_or, sym, refl, ap, ◌∙◌, ap₂, pow-suc, arith, lit<, lit≤, pow_pos, pow_mono, pow-add, shl_lt, shl_exact, le-ltb, lt-ltb, eq-eqb, ne_eqb, eqb-true}
+use Rattle.std.proofs.Common.{◌≡◌, ℕ, zero, suc, ◌+◌, ◌-◌, ◌*◌, ◌/◌, ◌%◌, ◌^◌, ◌<◌, ◌≤◌, max, Bool, true, false, cond, not, ◌&&◌, ◌||◌, eqb, ltb, leb, List, [], ◌∷◌, map, length, get_or, sym, refl, ap, ◌∙◌, ap₂, pow-suc, arith, lit<, lit≤, pow_pos, pow_mono, pow-add, shl_lt, shl_exact, le-ltb, lt-ltb, eq-eqb, ne_eqb, eqb-true}
 use native.Mathlib.Decide.{ℕ_discrete, dec_lt}
-use mathlib.Core.Option.{Option, none}
+use Rattle.std.specs.Prelude.{Option, None, Some}
 use mir.Val.{bool_byte}
 use borrow.Author.Tests.{not-true, not-false}
 use lib.Bits.{bit_or, or_block, or_zero_r, or_shifted_r}
@@ -18,7 +18,6 @@ use Rattle.pulse.specs.Pulse.{cycles, class_of, classes, same}
 use Rattle.byte.specs.declared.decoder.Bounds.{Bounds}
 use Rattle.byte.specs.declared.ByteRead.{ByteRead}
 use Rattle.byte.specs.declared.ByteRead.TheVariants.{Good, Bad}
-use Rattle.byte.specs.declared.FrameRead.TheVariants.{Value, None}
 use Rattle.byte.specs.Byte.{Pair, is_odd, pair_of, bit_of, is_sound, pair_at, nth_pair, nth_bit, wrong_pair, value_of, checked, byte_of, value_in, read_frame}
 use Rattle.byte.specs.private.Frame.{bounds_of, distance_of, class_in, closed}
 use Rattle.byte.proofs.CodingLaws.{value-next, value-lt}
@@ -46,13 +45,20 @@ pub record Small (t : Thresholds) : Type 0 where
   pub long : t.long.0 < 2 ^ 32
   pub noise : t.noise.0 < 2 ^ 32
 
+max-cond : (m l : ℕ) → max l m ≡ cond (ltb m l) l m
+max-cond m l = elim (dec_lt m l) [
+  | yes h ↦ rw (lt-ltb m l h) (omega arith)
+  | no h ↦ rw (le-ltb m l (omega arith)) (omega arith)
+]
+
 -- the bounds by what they are made of
-pub bounds-are : (t : Thresholds) {medium long wider noise : Cycles} → medium.0 ≡ t.medium.0 - t.short.0 → long.0 ≡ t.long.0 - t.short.0
-    → wider.0 ≡ cond (ltb medium.0 long.0) long.0 medium.0 → noise.0 ≡ t.noise.0 - t.short.0
-    → ◌≡◌ {A = Bounds} (record { short = t.short; medium = medium; long = wider; noise = noise }) (bounds_of t)
+pub bounds-are : (t : Thresholds) {medium long wider noise : ℕ} → medium ≡ t.medium.0 - t.short.0 → long ≡ t.long.0 - t.short.0
+    → wider ≡ max long medium → noise ≡ t.noise.0 - t.short.0
+    → ◌≡◌ {A = Bounds} (record { short = t.short; medium = cycles medium; long = cycles wider; noise = cycles noise }) (bounds_of t)
 unfolding bounds_of
 bounds-are t {medium} {long} {wider} {noise} m l w n =
-    ap₂ (λ (x y : Cycles). record { short = t.short; medium = x; long = y; noise = noise }) (ap cycles m) (ap cycles (w ∙ ap₂ (λ x y. cond (ltb x y) y x) m l))
+    ap₂ (λ (x y : Cycles). record { short = t.short; medium = x; long = y; noise = cycles noise }) (ap cycles m)
+    (ap cycles (w ∙ max-cond medium long ∙ ap₂ (λ x y. cond (ltb x y) y x) m l))
     ∙ ap (λ (z : Cycles). record { short = t.short; medium = (bounds_of t).medium; long = (bounds_of t).long; noise = z }) (ap cycles n)
 
 module _ (t : Thresholds) (small : Small t) where
@@ -342,7 +348,7 @@ no_value_lem : (r : ByteRead) → ((v : ℕ) → r ≡ Good v → ⊥) → None 
 no_value_lem (Good v) h = absurd (h v refl)
 no_value_lem (Bad cause) h = refl
 
-checked-odd : (o : Option ℕ) (value parity : ℕ) → o ≡ none → is_odd (ones value + parity) ≡ true → checked o value parity ≡ Good value
+checked-odd : (o : Option ℕ) (value parity : ℕ) → o ≡ None → is_odd (ones value + parity) ≡ true → checked o value parity ≡ Good value
 checked-odd o value parity e odd = rw (e, odd)
 
 module _ (b : Bounds) (ps : List ℕ) (ys : List Class) (agree : (j : ℕ) → j < 20 → get_or ys j Noise ≡ class_in b (get_or ps j 0)) where
@@ -449,7 +455,7 @@ module _ (b : Bounds) (ps : List ℕ) (ys : List Class) (agree : (j : ℕ) → j
     unfolding closed
     closed-read = by test refl
       where
-        by : (r : Bool) → test ≡ r → cond r (Value (first % 256)) None ≡ value_in (byte_of ys)
+        by : (r : Bool) → test ≡ r → cond r (Some (first % 256)) None ≡ value_in (byte_of ys)
         by true e = ap value_in (sym (closed-good e))
         by false e = no_value_lem (byte_of ys) (λ v g. let z = sym e ∙ good-closed v g in let n : ◌≡◌ {A = ℕ} 0 1 = cc in omega arith)
 

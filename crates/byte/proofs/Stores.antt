@@ -1,5 +1,6 @@
 -- The pulses of bytes, stored one part after the other.
 use Rattle.std.proofs.Common.{◌≡◌, ℕ, zero, suc, ◌+◌, ◌*◌, ◌<◌, ◌≤◌, List, [], ◌∷◌, ◌++◌, length, get_or, drop, sym, refl, ap, ◌∙◌, append-nil, add-one, arith, drop_of_length-le, drop-cons}
+use Rattle.std.specs.Prelude.{Err, Ok}
 use mathlib.Core.List.{map-append}
 use lib.Seq.{sets}
 use Rattle.lists.specs.Buffer.{put_at}
@@ -7,7 +8,6 @@ use Rattle.lists.proofs.BufferLaws.{put-room}
 use Rattle.lists.proofs.LoopLaws.{Putting, put-begun, put_next, put-done}
 use Rattle.refusal.specs.declared.Reason.TheVariants.{NoRoom}
 use Rattle.refusal.specs.declared.Refusal.{Refusal}
-use Rattle.refusal.specs.declared.Put.TheVariants.{Count, Refused}
 use Rattle.refusal.specs.Refusal.{refusal_at}
 use Rattle.refusal.specs.Outcome.{accepted}
 use Rattle.refusal.specs.Promise.{Fills, itself, Written}
@@ -64,7 +64,7 @@ module _ (out₀ bytes : List ℕ) where
     BytesPut-next h e =
         put_next u (byte_pulses (get_or bytes i 0)) (bytes_pulses (drop (i + 1) bytes)) (rest-next h) e (rw (length-byte_pulses (get_or bytes i 0)) (omega arith))
 
-    pub write_bytes-whole : length bytes ≤ i → 20 * length bytes ≤ length out₀ → Written (write_bytes (length out₀) bytes) out₀ (Count (20 * length bytes)) out
+    pub write_bytes-whole : length bytes ≤ i → 20 * length bytes ≤ length out₀ → Written (write_bytes (length out₀) bytes) out₀ (Ok (20 * length bytes)) out
     unfolding bytes_classes write_bytes
     write_bytes-whole h room =
         let long = length-bytes_pulses bytes in
@@ -72,7 +72,7 @@ module _ (out₀ bytes : List ℕ) where
         (put-done u (ap bytes_pulses (drop_of_length-le bytes h)) ∙ put-room out₀ 0 (bytes_pulses bytes) (omega arith))
 
   pub write_bytes-no_room : {r : Refusal} → length out₀ < 20 * length bytes → r ≡ refusal_at NoRoom 0
-      → Written (write_bytes (length out₀) bytes) out₀ (Refused r) out₀
+      → Written (write_bytes (length out₀) bytes) out₀ (Err r) out₀
   unfolding write_bytes
   write_bytes-no_room full =
       written-refused (write_bytes (length out₀) bytes) out₀ (if_room-no_room (length out₀) (length (bytes_pulses bytes)) _ (rw (length-bytes_pulses bytes) full))

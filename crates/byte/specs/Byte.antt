@@ -1,6 +1,6 @@
 -- Bytes (document 01, 'Bytes'), on the classes of pulses.
-use Rattle.std.specs.Prelude.{ℕ, zero, suc, ◌+◌, ◌*◌, ◌/◌, ◌%◌, Bool, true, false, cond, not, ◌&&◌, ◌||◌, List, [], ◌∷◌, ◌++◌, length, ◌==◌, count_ones, nat_lt, slice_index_or}
-use Rattle.std.proofs.Math.Option.{Option, none, some}
+use Rattle.std.specs.Prelude.{ℕ, zero, suc, ◌+◌, ◌*◌, ◌/◌, ◌%◌, Bool, true, false, cond, not, ◌&&◌, ◌||◌, List, [], ◌∷◌, ◌++◌, length, ◌==◌, count_ones, nat_lt, slice_index_or, Option, None, Some}
+use Rattle.std.specs.Prelude.{Option, None, Some}
 use Rattle.lists.specs.Places.{first_from, tabulate, part}
 use Rattle.refusal.specs.Outcome.{Outcome, accepted, if_room}
 use Rattle.pulse.specs.declared.Class.{Class}
@@ -8,8 +8,6 @@ use Rattle.pulse.specs.declared.Class.TheVariants.{Short, Medium, Long, Noise}
 use Rattle.pulse.specs.Pulse.{pulses, same}
 use Rattle.byte.specs.declared.ByteRead.{ByteRead}
 use Rattle.byte.specs.declared.ByteRead.TheVariants.{Good, Bad}
-use Rattle.byte.specs.declared.FrameRead.{FrameRead}
-use Rattle.byte.specs.declared.FrameRead.TheVariants.{Value, None}
 
 -- ---- As written
 
@@ -98,26 +96,26 @@ value_of (d ∷ ds) = d + 2 * value_of ds
 -- Good where no pair is wrong and the number of ones among the nine bits is odd. Bad otherwise, with the cause: the first wrong pair, or 10
 -- where none is wrong and the number of ones is even.
 abbrev pub checked : Option ℕ → ℕ → ℕ → ByteRead
-checked none value parity = cond (is_odd (count_ones value + parity)) (Good value) (Bad 10)
-checked (some i) value parity = Bad i
+checked None value parity = cond (is_odd (count_ones value + parity)) (Good value) (Bad 10)
+checked (Some i) value parity = Bad i
 
 -- what twenty pulses are
 unfoldable pub byte_of : List Class → ByteRead
 byte_of ys = checked (first_from (wrong_pair ys) 10 0) (value_of (tabulate (nth_bit ys) 8 1)) (nth_bit ys 9)
 
 -- the value of a good byte; a bad one has none
-abbrev pub value_in : ByteRead → FrameRead
-value_in (Good v) = Value v
+abbrev pub value_in : ByteRead → Option ℕ
+value_in (Good v) = Some v
 value_in (Bad cause) = None
 
 -- the value that the pulses of a frame have, all of them: one only where they are twenty
-unfoldable pub read_frame : List Class → FrameRead
+unfoldable pub read_frame : List Class → Option ℕ
 read_frame ys = cond (length ys == 20) (value_in (byte_of ys)) None
 
 -- the first wrong pair of twenty pulses, or 10 where none is wrong: the cause, where they are bad
 abbrev pub or_ten : Option ℕ → ℕ
-or_ten none = 10
-or_ten (some i) = i
+or_ten None = 10
+or_ten (Some i) = i
 
 unfoldable pub first_wrong : List Class → ℕ
 first_wrong ys = or_ten (first_from (wrong_pair ys) 10 0)

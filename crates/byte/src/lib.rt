@@ -17,20 +17,15 @@ ghost use Rattle.byte.specs.private.Frame.{code_of};
 
 use decoder::Bounds;
 use pulse::{Cycles, Thresholds};
-use refusal::{Put, Reason};
+use refusal::{Reason, Refusal};
+use write::Quarters;
 
 // What twenty pulses are: a good byte, with its value, or a bad one, with its cause. That is the first pair that is wrong, or EVEN_ONES.
+// An enum of its own and no Result: the terms of the format are a good and a bad byte, and a bad one is no error of the call. The cause is the number of a pair.
 #[derive(Clone, Copy)]
 pub enum ByteRead {
     Good(u8),
     Bad(u8),
-}
-
-// The value of a frame that is a good byte; none, for whatever cause, of one that is bad.
-#[derive(Clone, Copy)]
-pub enum FrameRead {
-    Value(u8),
-    None,
 }
 
 pub const PAIR_PULSES: usize = 2;
@@ -64,28 +59,26 @@ pub fn byte_at(t: Thresholds, strip: &[u32], at: usize) -> ByteRead
         return ByteRead::Bad(first_wrong(t, &strip[at..]));
     }
     match read_frame(t, &strip[at..at + BYTE_PULSES]) {
-        FrameRead::Value(value) => ByteRead::Good(value),
-        FrameRead::None => ByteRead::Bad(first_wrong(t, &strip[at..at + BYTE_PULSES])),
+        Some(value) => ByteRead::Good(value),
+        None => ByteRead::Bad(first_wrong(t, &strip[at..at + BYTE_PULSES])),
     }
 }
 
 // The value of a frame, which has twenty pulses. Fewer or more have none.
-pub fn read_frame(t: Thresholds, frame: &[u32]) -> FrameRead
+pub fn read_frame(t: Thresholds, frame: &[u32]) -> Option<u8>
     ensures { result ≡ read_frame (classes t frame.now) }
 {
-    decoder::decode(Bounds::new(t), frame)
+    Bounds::new(t).decode(frame)
 }
 
 // The first wrong pair of a frame, or EVEN_ONES where none is wrong: the cause, where the frame is a bad byte.
 pub fn first_wrong(t: Thresholds, frame: &[u32]) -> u8
     ensures { result ≡ first_wrong (classes t frame.now) }
 {
-    let mut i: usize = 0;
-    while i < PAIRS {
+    for i in 0..PAIRS {
         if is_wrong(t, frame, i) {
             return i as u8;
         }
-        i = i + 1;
     }
     EVEN_ONES
 }
@@ -126,19 +119,17 @@ pub fn pair_fits(t: Thresholds, value: u8, i: usize, first: Cycles, second: Cycl
 }
 
 // Writes bytes one after the other, twenty pulses each, and answers the number of pulses put. It refuses an output that is too short.
-pub fn write_bytes(values: &[u8], out: &mut [u32]) -> Put
+pub fn write_bytes(values: &[u8], out: &mut [u32]) -> Result<usize, Refusal>
     ensures { Written (write_bytes (length out.old) values.now) out.old result out.new }
 {
     if out.len() / BYTE_PULSES < values.len() {
-        return Put::Refused(refusal::at(Reason::NoRoom, 0));
+        return Err(Refusal::at(Reason::NoRoom, 0));
     }
-    let table = write::QUARTER_TABLE;
-    let mut i: usize = 0;
-    while i < values.len() {
-        write::put_twenty(out, BYTE_PULSES * i, &table, values[i]);
-        i = i + 1;
+    let table = Quarters::new();
+    for (i, value) in values.iter().enumerate() {
+        table.put_byte(out, BYTE_PULSES * i, *value);
     }
-    Put::Count(BYTE_PULSES * values.len())
+    Ok(BYTE_PULSES * values.len())
 }
 
 // The bits of a byte, each at the place of its pair: the value at 1 to 8, the parity bit at 9.

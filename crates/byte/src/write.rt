@@ -1,4 +1,5 @@
-// The pulses of a byte, put one part after the other. Its eight bits are put in quarters, from a table.
+// The pulses of a byte, put one part after the other. Its eight bits are put in quarters, from a table. Each function takes the buffer and a
+// place: a struct of both would be no plainer, since each promise says by `sets` what is put where, and that all else stays.
 ghost use Rattle.std.specs.Prelude.{◌≡◌, ◌+◌, ◌<◌, ◌≤◌, [], ◌∷◌, length};
 ghost use Rattle.std.proofs.lemmas.List.Edits.{sets};
 ghost use Rattle.pulse.specs.Pulse.{pulses};
@@ -23,28 +24,52 @@ const S: u16 = pulse::SHORT_CYCLES.0 as u16;
 
 const M: u16 = pulse::MEDIUM_CYCLES.0 as u16;
 
-// The pulses of two bits, by the number that these are. Each use of the name makes the table anew, so it is used before a loop.
-pub const QUARTER_TABLE: [[u16; QUARTER_PULSES]; QUARTER_VALUES] = [
-    [S, M, S, M],
-    [M, S, S, M],
-    [S, M, M, S],
-    [M, S, M, S],
-];
+// The pulses of two bits, by the number that these are.
+#[derive(Clone, Copy)]
+pub struct Quarters {
+    rows: [[u16; QUARTER_PULSES]; QUARTER_VALUES],
+    ghost known: { rows ≡ quarters },
+}
 
-// Puts one byte.
-pub fn put_twenty(
-    out: &mut [u32],
-    at: usize,
-    table: &[[u16; QUARTER_PULSES]; QUARTER_VALUES],
-    b: u8,
-)
-    requires room { at + 20 ≤ length out.old }
-    requires rows { table.now ≡ quarters }
-    ensures { out.new ≡ sets out.old at (byte_pulses b) }
-{
-    put_pair(out, at, Class::Long, Class::Medium);
-    put_bits(out, at + PAIR_PULSES, table, b);
-    put_bit(out, at + PARITY_AT, super::parity_bit(b));
+impl Quarters {
+    // Each call makes the table anew, so it is made before a loop.
+    pub fn new() -> Quarters {
+        Quarters {
+            rows: [[S, M, S, M], [M, S, S, M], [S, M, M, S], [M, S, M, S]],
+        }
+    }
+
+    // Puts one byte.
+    pub fn put_byte(&self, out: &mut [u32], at: usize, b: u8)
+        requires { at + 20 ≤ length out.old }
+        ensures { out.new ≡ sets out.old at (byte_pulses b) }
+    {
+        put_pair(out, at, Class::Long, Class::Medium);
+        self.put_bits(out, at + PAIR_PULSES, b);
+        put_bit(out, at + PARITY_AT, super::parity_bit(b));
+    }
+
+    // Puts the eight bits of a byte.
+    fn put_bits(&self, out: &mut [u32], at: usize, b: u8)
+        requires { at + 16 ≤ length out.old }
+        ensures { out.new ≡ sets out.old at (pulses (coded (bits 8 b))) }
+    {
+        let mut rest = b as usize;
+        for i in 0..QUARTERS {
+            self.put_quarter(out, at + QUARTER_PULSES * i, rest % QUARTER_VALUES);
+            rest /= QUARTER_VALUES;
+        }
+    }
+
+    // Puts two bits.
+    fn put_quarter(&self, out: &mut [u32], at: usize, n: usize)
+        requires { (n < 4) × (at + 4 ≤ length out.old) }
+        ensures { out.new ≡ sets out.old at (quarter n) }
+    {
+        for (i, cycles) in self.rows[n].iter().enumerate() {
+            out[at + i] = u32::from(*cycles);
+        }
+    }
 }
 
 fn put_pair(out: &mut [u32], at: usize, first: Class, second: Class)
@@ -55,39 +80,6 @@ fn put_pair(out: &mut [u32], at: usize, first: Class, second: Class)
     let two = pulse::written_as(second);
     out[at] = one.0;
     out[at + 1] = two.0;
-}
-
-// Puts the eight bits of a byte.
-fn put_bits(out: &mut [u32], at: usize, table: &[[u16; QUARTER_PULSES]; QUARTER_VALUES], b: u8)
-    requires room { at + 16 ≤ length out.old }
-    requires rows { table.now ≡ quarters }
-    ensures { out.new ≡ sets out.old at (pulses (coded (bits 8 b))) }
-{
-    let mut rest = b as usize;
-    let mut i: usize = 0;
-    while i < QUARTERS {
-        put_quarter(out, at + QUARTER_PULSES * i, table, rest % QUARTER_VALUES);
-        rest = rest / QUARTER_VALUES;
-        i = i + 1;
-    }
-}
-
-// Puts two bits.
-fn put_quarter(
-    out: &mut [u32],
-    at: usize,
-    table: &[[u16; QUARTER_PULSES]; QUARTER_VALUES],
-    n: usize,
-)
-    requires room { (n < 4) × (at + 4 ≤ length out.old) }
-    requires rows { table.now ≡ quarters }
-    ensures { out.new ≡ sets out.old at (quarter n) }
-{
-    let mut i: usize = 0;
-    while i < QUARTER_PULSES {
-        out[at + i] = table[n][i] as u32;
-        i = i + 1;
-    }
 }
 
 fn put_bit(out: &mut [u32], at: usize, bit: u8)

@@ -4,31 +4,30 @@
 
 ghost use Rattle.std.specs.Prelude.{◌≡◌, [], ◌∷◌, length};
 ghost use Rattle.refusal.specs.Refusal.{why_of};
-ghost use Rattle.refusal.specs.Outcome.{mapped};
-ghost use Rattle.refusal.specs.Promise.{put_answer};
+ghost use Rattle.refusal.specs.Outcome.{mapped, outcome_of};
 ghost use Rattle.pulse.specs.Pulse.{class_of, fixed, classes};
 ghost use Rattle.byte.specs.Byte.{byte_at};
 ghost use Rattle.block.specs.Block.{write_block};
-ghost use Rattle.block.specs.Reading.{read_block, block_answer};
+ghost use Rattle.block.specs.Reading.{read_block};
 ghost use Rattle.deck.specs.Calls.{lent, begin_deck, take_run, take_end, said_by, saying_of};
-ghost use Rattle.header.specs.Header.{pack_header, unpack_header, header_answer, shown_span};
+ghost use Rattle.header.specs.Header.{pack_header, unpack_header, shown_span};
 ghost use Rattle.file.specs.File.{file, write_file};
-ghost use Rattle.file.specs.Reading.{read_file, file_answer};
+ghost use Rattle.file.specs.Reading.{read_file};
 ghost use Rattle.wear.specs.Walk.{step_from, tried_block, step_answer};
-ghost use Rattle.wear.specs.Report.{report_strip, report_answer};
+ghost use Rattle.wear.specs.Report.{report_strip};
 ghost use Rattle.tap.specs.Tap.{write_tap};
-ghost use Rattle.tap.specs.Reading.{read_tap, tap_answer};
+ghost use Rattle.tap.specs.Reading.{read_tap};
 ghost use Rattle.capi.specs.Flat.{no_refusal, flat_refusal, flat_byte, flat_put, flat_block, told_struct, flat_told, lone_header, flat_file, flat_tap, flat_span, totals_of, wear_of, flat_report, spot_of, walk_of, flat_tried, flat_step, PutFlat, BlockFlat, FileFlat, TapFlat};
 
-use block::{BlockAnswer, ByCause};
+use block::{ByCause, Extent};
 use byte::ByteRead;
 use deck::{Deck, Said};
-use file::{FileAnswer, Loaded};
-use header::{Fields, HeaderAnswer};
+use file::Loaded;
+use header::Fields;
 use pulse::Thresholds;
-use refusal::{Put, Refusal};
-use tap::TapAnswer;
-use wear::{ReportAnswer, Spot, Step, Totals, Trial, Tried};
+use refusal::Refusal;
+use tap::TapInfo;
+use wear::{Spot, Totals, Trial, Tried};
 
 // Why a call refuses: the number of the refusal, the block and the place; with refusal 6 also why the lost byte is bad in copy one and in copy
 // two. All are 0 where it accepts; where it refuses, all numbers of the answer after the refusal are 0, but for those of a report and of a step.
@@ -166,18 +165,7 @@ pub struct TapeWalked {
 pub extern "C" fn tape_read_byte(pulses: &[u32], at: usize) -> TapeByte
     ensures { result ≡ flat_byte (byte_at (classes fixed pulses.now) at) }
 {
-    match byte::byte_at(Thresholds::fixed(), pulses, at) {
-        ByteRead::Good(value) => TapeByte {
-            good: 1,
-            value: value as u32,
-            cause: 0,
-        },
-        ByteRead::Bad(cause) => TapeByte {
-            good: 0,
-            value: 0,
-            cause: cause as u32,
-        },
-    }
+    TapeByte::from(byte::byte_at(Thresholds::fixed(), pulses, at))
 }
 
 // ---- Blocks
@@ -186,7 +174,7 @@ pub extern "C" fn tape_read_byte(pulses: &[u32], at: usize) -> TapeByte
 pub extern "C" fn tape_write_block(payload: &[u8], leader: u64, out: &mut [u32]) -> TapePut
     ensures { PutFlat (write_block (length out.old) leader payload.now) out.old result out.new }
 {
-    flat_put(block::write_block(payload, leader as usize, out))
+    TapePut::from(block::write_block(payload, leader as usize, out))
 }
 
 #[unsafe(no_mangle)]
@@ -198,7 +186,7 @@ pub extern "C" fn tape_read_block(
 ) -> TapeBlock
     ensures { BlockFlat (read_block (classes fixed pulses.now) (length out.old) from n) out.old result out.new }
 {
-    flat_block(block::read_block(pulses, from, n, out))
+    TapeBlock::from(block::read_block(pulses, from, n, out))
 }
 
 // ---- Straight from the deck
@@ -240,7 +228,7 @@ pub extern "C" fn tape_deck_end(deck: Deck, work: &mut [u8], out: &mut [u8]) -> 
 pub extern "C" fn tape_deck_said(deck: Deck) -> TapeTold
     ensures { result ≡ flat_told (said_by deck) }
 {
-    flat_told(deck.said())
+    TapeTold::from(deck.said())
 }
 
 // ---- Program files
@@ -259,7 +247,7 @@ pub extern "C" fn tape_write_file(
     ensures { PutFlat (write_file (length out.old) (file (record { kind = kind; start = start; end = end }) name.now bytes.now leader0 leader1)) out.old result out.new }
 {
     let fields = Fields { kind, start, end };
-    flat_put(file::write_file(fields, name, bytes, leader0 as usize, leader1 as usize, out))
+    TapePut::from(file::write_file(fields, name, bytes, leader0 as usize, leader1 as usize, out))
 }
 
 #[unsafe(no_mangle)]
@@ -271,7 +259,7 @@ pub extern "C" fn tape_read_file(
 ) -> TapeFile
     ensures { FileFlat (read_file (classes fixed pulses.now) (length header.old) (length bytes.old) from) header.old bytes.old result header.new bytes.new }
 {
-    flat_file(file::read_file(pulses, from, header, bytes))
+    TapeFile::from(file::read_file(pulses, from, header, bytes))
 }
 
 // ---- Headers
@@ -286,14 +274,15 @@ pub extern "C" fn tape_pack_header(
 ) -> TapePut
     ensures { PutFlat (pack_header (length out.old) (record { kind = kind; start = start; end = end }) name.now) out.old result out.new }
 {
-    flat_put(header::pack_header(Fields { kind, start, end }, name, out))
+    TapePut::from(header::pack_header(Fields { kind, start, end }, name, out))
 }
 
+// A lone header has no data block, and its stop is 0.
 #[unsafe(no_mangle)]
 pub extern "C" fn tape_unpack_header(header: &[u8]) -> TapeFile
     ensures { result ≡ flat_file (mapped lone_header (unpack_header header.now)) }
 {
-    flat_file(lone_header(header::unpack_header(header)))
+    TapeFile::from(header::unpack_header(header).map(|fields| Loaded { fields, stop: 0 }))
 }
 
 #[unsafe(no_mangle)]
@@ -301,13 +290,13 @@ pub extern "C" fn tape_shown_name(header: &[u8]) -> TapeSpan
     ensures { result ≡ flat_span (shown_span header.now) }
 {
     match header::unpack_header(header) {
-        HeaderAnswer::Accepted(_) => TapeSpan {
-            refusal: no_refusal(),
+        Ok(_) => TapeSpan {
+            refusal: NO_REFUSAL,
             offset: header::NAME_AT as u64,
             length: header::shown_name(header).len() as u64,
         },
-        HeaderAnswer::Refused(why) => TapeSpan {
-            refusal: flat_refusal(why),
+        Err(refusal) => TapeSpan {
+            refusal: TapeRefusal::from(refusal),
             offset: 0,
             length: 0,
         },
@@ -320,264 +309,44 @@ pub extern "C" fn tape_shown_name(header: &[u8]) -> TapeSpan
 pub extern "C" fn tape_write_tap(durations: &[u32], version: u8, out: &mut [u8]) -> TapePut
     ensures { PutFlat (write_tap (length out.old) version durations.now) out.old result out.new }
 {
-    flat_put(tap::write_tap(durations, version, out))
+    TapePut::from(tap::write_tap(durations, version, out))
 }
 
 #[unsafe(no_mangle)]
 pub extern "C" fn tape_read_tap(tape: &[u8], out: &mut [u32]) -> TapeTap
     ensures { TapFlat (read_tap (length out.old) tape.now) out.old result out.new }
 {
-    flat_tap(tap::read_tap(tape, out))
+    TapeTap::from(tap::read_tap(tape, out))
 }
 
 // ---- How worn strips are
 
+// The totals are handed back as they were lent where the report refuses.
 #[unsafe(no_mangle)]
 pub extern "C" fn tape_report_strip(totals: TapeWear, pulses: &[u32]) -> TapeReport
     ensures { result ≡ flat_report totals (report_strip (totals_of totals) (classes fixed pulses.now)) }
 {
-    flat_report(totals, wear::report(totals_of(totals), pulses))
+    match wear::report(Totals::from(totals), pulses) {
+        Ok(sums) => TapeReport {
+            refusal: NO_REFUSAL,
+            totals: TapeWear::from(sums),
+        },
+        Err(why) => TapeReport {
+            refusal: TapeRefusal::from(why),
+            totals,
+        },
+    }
 }
 
+// Where no block is found, the walk goes on from where it stood.
 #[unsafe(no_mangle)]
 pub extern "C" fn tape_walk_block(pulses: &[u32], at: TapeWalk) -> TapeWalked
     ensures { result ≡ flat_step at (step_from (classes fixed pulses.now) (spot_of at)) }
 {
-    flat_step(at, wear::step_from(pulses, spot_of(at)))
-}
-
-// ---- Answers as plain structs
-
-fn flat_put(p: Put) -> TapePut
-    ensures { result ≡ flat_put (put_answer p) }
-{
-    match p {
-        Put::Count(n) => TapePut {
-            refusal: no_refusal(),
-            count: n as u64,
-        },
-        Put::Refused(r) => TapePut {
-            refusal: flat_refusal(r),
-            count: 0,
-        },
-    }
-}
-
-fn flat_block(b: BlockAnswer) -> TapeBlock
-    ensures { result ≡ flat_block (block_answer b) }
-{
-    match b {
-        BlockAnswer::Accepted(e) => TapeBlock {
-            refusal: no_refusal(),
-            n: e.n as u64,
-            start: e.start as u64,
-            end: e.end as u64,
-        },
-        BlockAnswer::Refused(r) => TapeBlock {
-            refusal: flat_refusal(r),
-            n: 0,
-            start: 0,
-            end: 0,
-        },
-    }
-}
-
-fn flat_told(said: Said) -> TapeTold
-    ensures { result ≡ flat_told (saying_of said) }
-{
-    match said {
-        Said::Nothing => TapeTold {
-            refusal: no_refusal(),
-            told: 0,
-            n: 0,
-            start: 0,
-            end: 0,
-        },
-        Said::Answer(answer) => told_of(1, flat_block(answer)),
-        Said::Refused(why) => told_of(2, flat_block(BlockAnswer::Refused(why))),
-    }
-}
-
-fn told_of(told: u32, block: TapeBlock) -> TapeTold
-    ensures { result ≡ told_struct told block }
-{
-    let refusal = block.refusal;
-    TapeTold {
-        refusal,
-        told,
-        n: block.n,
-        start: block.start,
-        end: block.end,
-    }
-}
-
-fn flat_file(f: FileAnswer) -> TapeFile
-    ensures { result ≡ flat_file (file_answer f) }
-{
-    match f {
-        FileAnswer::Accepted(l) => {
-            let fields = l.fields;
-            TapeFile {
-                refusal: no_refusal(),
-                kind: fields.kind as u32,
-                start: fields.start as u32,
-                end: fields.end as u32,
-                stop: l.stop as u64,
-            }
-        }
-        FileAnswer::Refused(r) => TapeFile {
-            refusal: flat_refusal(r),
-            kind: 0,
-            start: 0,
-            end: 0,
-            stop: 0,
-        },
-    }
-}
-
-// What unpacking a header answers, as the file reader does: a lone header has no data block, and its stop is 0.
-fn lone_header(h: HeaderAnswer) -> FileAnswer
-    ensures { file_answer result ≡ mapped lone_header (header_answer h) }
-{
-    match h {
-        HeaderAnswer::Accepted(fields) => FileAnswer::Accepted(Loaded { fields, stop: 0 }),
-        HeaderAnswer::Refused(r) => FileAnswer::Refused(r),
-    }
-}
-
-fn flat_tap(t: TapAnswer) -> TapeTap
-    ensures { result ≡ flat_tap (tap_answer t) }
-{
-    match t {
-        TapAnswer::Accepted(info) => TapeTap {
-            refusal: no_refusal(),
-            version: info.version as u32,
-            count: info.count as u64,
-        },
-        TapAnswer::Refused(r) => TapeTap {
-            refusal: flat_refusal(r),
-            version: 0,
-            count: 0,
-        },
-    }
-}
-
-fn no_refusal() -> TapeRefusal
-    ensures { result ≡ no_refusal }
-{
-    TapeRefusal {
-        number: 0,
-        block: 0,
-        place: 0,
-        cause_one: 0,
-        cause_two: 0,
-    }
-}
-
-fn flat_refusal(r: Refusal) -> TapeRefusal
-    ensures { result ≡ flat_refusal (why_of r) }
-{
-    let reason = r.reason;
-    let causes = refusal::causes_of(reason);
-    TapeRefusal {
-        number: refusal::number_of(reason),
-        block: r.block,
-        place: r.place as u64,
-        cause_one: causes.one as u32,
-        cause_two: causes.two as u32,
-    }
-}
-
-// ---- Totals and places
-
-fn totals_of(w: TapeWear) -> Totals
-    ensures { result ≡ totals_of w }
-{
-    let bad = w.causes;
-    Totals {
-        strips: w.strips,
-        shorts: w.shorts,
-        mediums: w.mediums,
-        longs: w.longs,
-        noises: w.noises,
-        one: w.one,
-        two: w.two,
-        lost: w.lost,
-        bad,
-    }
-}
-
-fn wear_of(t: Totals) -> TapeWear
-    ensures { result ≡ wear_of t }
-{
-    let causes = t.bad;
-    TapeWear {
-        strips: t.strips,
-        shorts: t.shorts,
-        mediums: t.mediums,
-        longs: t.longs,
-        noises: t.noises,
-        one: t.one,
-        two: t.two,
-        lost: t.lost,
-        causes,
-    }
-}
-
-fn flat_report(lent: TapeWear, answer: ReportAnswer) -> TapeReport
-    ensures { result ≡ flat_report lent (report_answer answer) }
-{
-    match answer {
-        ReportAnswer::Accepted(totals) => TapeReport {
-            refusal: no_refusal(),
-            totals: wear_of(totals),
-        },
-        ReportAnswer::Refused(r) => TapeReport {
-            refusal: flat_refusal(r),
-            totals: lent,
-        },
-    }
-}
-
-fn spot_of(at: TapeWalk) -> Spot
-    ensures { result ≡ spot_of at }
-{
-    let length = at.length;
-    if length == 0 {
-        return Spot {
-            from: at.from as usize,
-            trial: Trial::Header,
-        };
-    }
-    Spot {
-        from: at.from as usize,
-        trial: Trial::Data(length as usize),
-    }
-}
-
-fn walk_of(at: Spot) -> TapeWalk
-    ensures { result ≡ walk_of at }
-{
-    let trial = at.trial;
-    match trial {
-        Trial::Header => TapeWalk {
-            from: at.from as u64,
-            length: 0,
-        },
-        Trial::Data(n) => TapeWalk {
-            from: at.from as u64,
-            length: n as u64,
-        },
-    }
-}
-
-fn flat_step(lent: TapeWalk, step: Step) -> TapeWalked
-    ensures { result ≡ flat_step lent (step_answer step) }
-{
-    match step {
-        Step::Found(b) => flat_tried(b),
-        Step::Refused(r) => TapeWalked {
-            refusal: flat_refusal(r),
+    match wear::step_from(pulses, Spot::from(at)) {
+        Ok(tried) => TapeWalked::from(tried),
+        Err(why) => TapeWalked {
+            refusal: TapeRefusal::from(why),
             found: 0,
             n: 0,
             start: 0,
@@ -586,30 +355,258 @@ fn flat_step(lent: TapeWalk, step: Step) -> TapeWalked
             two: 0,
             lost: 0,
             causes: ByCause::none(),
-            next: lent,
+            next: at,
         },
     }
 }
 
-fn flat_tried(b: Tried) -> TapeWalked
-    ensures { result ≡ flat_tried (tried_block b) }
+// ---- Answers as plain structs
+
+impl From<ByteRead> for TapeByte {
+    ghost from_gives = { λ read byte. byte ≡ flat_byte read };
+
+    fn from(read: ByteRead) -> TapeByte {
+        match read {
+            ByteRead::Good(value) => TapeByte {
+                good: 1,
+                value: u32::from(value),
+                cause: 0,
+            },
+            ByteRead::Bad(cause) => TapeByte {
+                good: 0,
+                value: 0,
+                cause: u32::from(cause),
+            },
+        }
+    }
+}
+
+impl From<Result<usize, Refusal>> for TapePut {
+    ghost from_gives = { λ answer put. put ≡ flat_put (outcome_of answer) };
+
+    fn from(answer: Result<usize, Refusal>) -> TapePut {
+        match answer {
+            Ok(n) => TapePut {
+                refusal: NO_REFUSAL,
+                count: n as u64,
+            },
+            Err(why) => TapePut {
+                refusal: TapeRefusal::from(why),
+                count: 0,
+            },
+        }
+    }
+}
+
+impl From<Result<Extent, Refusal>> for TapeBlock {
+    ghost from_gives = { λ answer block. block ≡ flat_block (outcome_of answer) };
+
+    fn from(answer: Result<Extent, Refusal>) -> TapeBlock {
+        match answer {
+            Ok(e) => TapeBlock {
+                refusal: NO_REFUSAL,
+                n: e.n as u64,
+                start: e.start as u64,
+                end: e.end as u64,
+            },
+            Err(why) => TapeBlock {
+                refusal: TapeRefusal::from(why),
+                n: 0,
+                start: 0,
+                end: 0,
+            },
+        }
+    }
+}
+
+impl From<Said> for TapeTold {
+    ghost from_gives = { λ said told. told ≡ flat_told (saying_of said) };
+
+    fn from(said: Said) -> TapeTold {
+        match said {
+            Said::Nothing => TapeTold {
+                refusal: NO_REFUSAL,
+                told: 0,
+                n: 0,
+                start: 0,
+                end: 0,
+            },
+            Said::Answer(answer) => told_of(1, TapeBlock::from(answer)),
+            Said::Refused(why) => told_of(2, TapeBlock::from(Err(why))),
+        }
+    }
+}
+
+fn told_of(told: u32, block: TapeBlock) -> TapeTold
+    ensures { result ≡ told_struct told block }
 {
-    let answer = b.answer;
-    let tally = b.tally;
-    let next = b.next;
-    let causes = tally.bad;
-    let block = flat_block(answer);
-    let refusal = block.refusal;
-    TapeWalked {
-        refusal,
-        found: 1,
-        n: b.n as u64,
-        start: b.start as u64,
+    TapeTold {
+        refusal: block.refusal,
+        told,
+        n: block.n,
+        start: block.start,
         end: block.end,
-        one: tally.one as u64,
-        two: tally.two as u64,
-        lost: tally.lost as u64,
-        causes,
-        next: walk_of(next),
+    }
+}
+
+impl From<Result<Loaded, Refusal>> for TapeFile {
+    ghost from_gives = { λ answer file. file ≡ flat_file (outcome_of answer) };
+
+    fn from(answer: Result<Loaded, Refusal>) -> TapeFile {
+        match answer {
+            Ok(loaded) => {
+                let fields = loaded.fields;
+                TapeFile {
+                    refusal: NO_REFUSAL,
+                    kind: u32::from(fields.kind),
+                    start: u32::from(fields.start),
+                    end: u32::from(fields.end),
+                    stop: loaded.stop as u64,
+                }
+            }
+            Err(why) => TapeFile {
+                refusal: TapeRefusal::from(why),
+                kind: 0,
+                start: 0,
+                end: 0,
+                stop: 0,
+            },
+        }
+    }
+}
+
+impl From<Result<TapInfo, Refusal>> for TapeTap {
+    ghost from_gives = { λ answer tape. tape ≡ flat_tap (outcome_of answer) };
+
+    fn from(answer: Result<TapInfo, Refusal>) -> TapeTap {
+        match answer {
+            Ok(info) => TapeTap {
+                refusal: NO_REFUSAL,
+                version: u32::from(info.version),
+                count: info.count as u64,
+            },
+            Err(why) => TapeTap {
+                refusal: TapeRefusal::from(why),
+                version: 0,
+                count: 0,
+            },
+        }
+    }
+}
+
+// The refusal of an answer that is accepted.
+const NO_REFUSAL: TapeRefusal = TapeRefusal {
+    number: 0,
+    block: 0,
+    place: 0,
+    cause_one: 0,
+    cause_two: 0,
+};
+
+impl From<Refusal> for TapeRefusal {
+    ghost from_gives = { λ refusal flat. flat ≡ flat_refusal (why_of refusal) };
+
+    fn from(refusal: Refusal) -> TapeRefusal {
+        let reason = refusal.reason;
+        let causes = reason.causes();
+        TapeRefusal {
+            number: u32::from(reason),
+            block: refusal.block,
+            place: refusal.place as u64,
+            cause_one: u32::from(causes.one),
+            cause_two: u32::from(causes.two),
+        }
+    }
+}
+
+// ---- Totals and places
+
+impl From<TapeWear> for Totals {
+    ghost from_gives = { λ wear totals. totals ≡ totals_of wear };
+
+    fn from(wear: TapeWear) -> Totals {
+        Totals {
+            strips: wear.strips,
+            shorts: wear.shorts,
+            mediums: wear.mediums,
+            longs: wear.longs,
+            noises: wear.noises,
+            one: wear.one,
+            two: wear.two,
+            lost: wear.lost,
+            bad: wear.causes,
+        }
+    }
+}
+
+impl From<Totals> for TapeWear {
+    ghost from_gives = { λ totals wear. wear ≡ wear_of totals };
+
+    fn from(totals: Totals) -> TapeWear {
+        TapeWear {
+            strips: totals.strips,
+            shorts: totals.shorts,
+            mediums: totals.mediums,
+            longs: totals.longs,
+            noises: totals.noises,
+            one: totals.one,
+            two: totals.two,
+            lost: totals.lost,
+            causes: totals.bad,
+        }
+    }
+}
+
+// The length 0 stands for a header.
+impl From<TapeWalk> for Spot {
+    ghost from_gives = { λ walk spot. spot ≡ spot_of walk };
+
+    fn from(walk: TapeWalk) -> Spot {
+        let length = walk.length;
+        let trial = if length == 0 {
+            Trial::Header
+        } else {
+            Trial::Data(length as usize)
+        };
+        Spot {
+            from: walk.from as usize,
+            trial,
+        }
+    }
+}
+
+impl From<Spot> for TapeWalk {
+    ghost from_gives = { λ spot walk. walk ≡ walk_of spot };
+
+    fn from(spot: Spot) -> TapeWalk {
+        let length = match spot.trial {
+            Trial::Header => 0,
+            Trial::Data(n) => n as u64,
+        };
+        TapeWalk {
+            from: spot.from as u64,
+            length,
+        }
+    }
+}
+
+impl From<Tried> for TapeWalked {
+    ghost from_gives = { λ tried walked. walked ≡ flat_tried (tried_block tried) };
+
+    fn from(tried: Tried) -> TapeWalked {
+        let tally = tried.tally;
+        let block = TapeBlock::from(tried.answer);
+        TapeWalked {
+            refusal: block.refusal,
+            found: 1,
+            n: tried.n as u64,
+            start: tried.start as u64,
+            end: block.end,
+            one: tally.one as u64,
+            two: tally.two as u64,
+            lost: tally.lost as u64,
+            causes: tally.bad,
+            next: TapeWalk::from(tried.next),
+        }
     }
 }

@@ -1,13 +1,15 @@
 -- What the calls around one pulse come to: the search for the start, sound states, what is said, the payload that is filled in.
-use Prim.Native.Nat.{ℕ, zero, suc, ◌+◌, ◌-◌, ◌*◌, ◌/◌, ◌%◌, ◌^◌, ◌≤◌, ◌<◌}
+use Prim.Native.Nat.{ℕ, ◌+◌, ◌-◌, ◌*◌, ◌/◌, ◌%◌, ◌^◌, ◌≤◌, ◌<◌}
 use native.Mathlib.Omega.{arith}
 use mathlib.Core.Path.{◌≡◌, refl, sym, ◌∙◌}
+use mathlib.Core.Logic.{◌⊎◌, inl, inr}
 use mathlib.Core.Bool.{Bool, true, false, cond, not, ◌&&◌, ◌||◌}
 use mathlib.Core.List.{List}
-use borrow.Author.Tests.{eq-eqb, ne_eqb, eqb-true, leb-true, le-ltb, lt-leb, ltb-false, not-false}
+use borrow.Author.Tests.{eq-eqb, ne_eqb, eqb-true, leb-true, ltb-true, ltb-false, not-false}
 use lib.Count.{ones}
 use lib.Dec.{eqb, leb, ltb}
 use lib.ListN.{length, get_or, set}
+use Rattle.std.specs.Prelude.{Option, None, Some}
 use Rattle.lists.specs.Places.{tabulate}
 use Rattle.lists.specs.Buffer.{put_at}
 use Rattle.lists.proofs.BoolLaws.{or-false, leb-not}
@@ -33,12 +35,14 @@ use Rattle.block.specs.declared.PlaceRead.{PlaceRead}
 use Rattle.block.specs.declared.PlaceRead.TheVariants.{One, Two, Neither}
 use Rattle.block.specs.Looking.{place_read}
 use Rattle.deck.specs.declared.Deck.{Deck}
+use Rattle.deck.specs.declared.state.Phase as own
 use Rattle.deck.specs.declared.Checks.{Checks}
 use Rattle.deck.specs.Lead.{lead, ends_with, longest_end, seek}
 use Rattle.deck.specs.Work.{fits, put_byte, payload_in}
 use Rattle.deck.specs.Judge.{mended, filled}
-use Rattle.deck.specs.Step.{Seeking, Told}
+use Rattle.deck.specs.Step.{Phase, Seeking, Told}
 use Rattle.deck.specs.Calls.{deck_of, phase_of, sound_in, is_sound, is_closed, lent, deck_refusing, not_begun, begin_deck, if_lent, ended_in, take_end, outcome_by, Silent, Answered, Denied, said_in, said_by}
+use Rattle.deck.specs.private.Ready.{doing, refusal_by}
 use Rattle.deck.proofs.SoundLaws.{closed-open, sound-sane}
 
 -- ---- The search for the start: by masks, as the code has it
@@ -118,48 +122,24 @@ module _ (s : ℕ) (h : s < 36) where
 
 module _ (d : Deck) where
   abbrev pub is_wrong : Bool
-  is_wrong = outside 65534 d.n || ltb 2 d.refused
+  is_wrong = (outside 65534 d.n || ltb 2 d.refused) || ltb 4 d.phase
 
   pub unsound : is_wrong ≡ true → false ≡ is_sound d
   unfolding is_sound
-  unsound e = rw (leb-not d.refused 2) (go (outside 65534 d.n) (ltb 2 d.refused) e)
+  unsound e = rw (leb-not d.refused 2, leb-not d.phase 4) (go (outside 65534 d.n) (ltb 2 d.refused) (ltb 4 d.phase) e)
     where
-      go : (a b : Bool) → (a || b) ≡ true → false ≡ (not a && not b && leb d.phase 4 && sound_in d.n d.taken d.refused (phase_of d))
-      go true b e = refl
-      go false true e = refl
-      go false false e = absurd (let z : ◌≡◌ {A = ℕ} 0 1 = cc in omega arith)
+      go : (a b c : Bool) → ((a || b) || c) ≡ true → false ≡ (not a && not b && not c && sound_in d.n d.taken d.refused (phase_of d))
+      go true b c e = refl
+      go false true c e = refl
+      go false false true e = refl
+      go false false false e = absurd (let z : ◌≡◌ {A = ℕ} 0 1 = cc in omega arith)
 
-  module _ (right : is_wrong ≡ false) where
-    sized : (leb d.phase 4 && sound_in d.n d.taken d.refused (phase_of d)) ≡ is_sound d
-    unfolding is_sound
-    sized = let h = or-false (outside 65534 d.n) (ltb 2 d.refused) right in rw (leb-not d.refused 2, h.0, h.1)
-
-    pub inside : d.n ≤ 65534
-    inside =
-        let h = or-false (outside 65534 d.n) (ltb 2 d.refused) right in
-        ltb-false 65534 d.n (or-false (eqb d.n 0) (ltb 65534 d.n) h.0).1
-
-    pub sound-seeking : d.phase ≡ 0 → (ltb d.heard 36 && leb d.heard d.taken) ≡ is_sound d
-    sound-seeking e = unfold phase_of in (rw (← sized, e))
-
-    pub sound-between : d.phase ≡ 2 → ltb d.heard 61 ≡ is_sound d
-    sound-between e = unfold phase_of in (rw (← sized, e))
-
-    pub sound-told : d.phase ≡ 4 → (eqb d.refused 0 && (eqb d.answer 0 || (leb 3 d.answer && leb d.answer 7))) ≡ is_sound d
-    sound-told e = unfold phase_of in (rw (← sized, e))
-
-    pub sound-frame : (d.phase ≡ 0 → ⊥) → (d.phase ≡ 2 → ⊥) → (d.phase ≡ 4 → ⊥)
-        → (ltb d.phase 4 && ltb d.place (d.n + 10) && ltb d.heard 20 && leb d.frame.wrong 10) ≡ is_sound d
-    sound-frame a b c = go d.phase refl a b c
-      where
-        go : (x : ℕ) → d.phase ≡ x → (x ≡ 0 → ⊥) → (x ≡ 2 → ⊥) → (x ≡ 4 → ⊥)
-            → (ltb d.phase 4 && ltb d.place (d.n + 10) && ltb d.heard 20 && leb d.frame.wrong 10) ≡ is_sound d
-        go zero e a b c = absurd (a refl)
-        go (suc zero) e a b c = unfold phase_of in (rw (← sized, e))
-        go (suc (suc zero)) e a b c = absurd (b refl)
-        go (suc (suc (suc zero))) e a b c = unfold phase_of in (rw (← sized, e))
-        go (suc (suc (suc (suc zero)))) e a b c = absurd (c refl)
-        go (suc (suc (suc (suc (suc x))))) e a b c = rw (← sized, le-ltb d.phase 4 (omega arith), lt-leb d.phase 4 (omega arith))
+  pub sound-by : is_wrong ≡ false → {ph : Phase} → phase_of d ≡ ph → sound_in d.n d.taken d.refused ph ≡ is_sound d
+  unfolding is_sound
+  sound-by right e =
+      let h = or-false (outside 65534 d.n || ltb 2 d.refused) (ltb 4 d.phase) right in
+      let g = or-false (outside 65534 d.n) (ltb 2 d.refused) h.0 in
+      rw (leb-not d.refused 2, leb-not d.phase 4, g.0, g.1, h.1, e)
 
 -- ---- What is said
 
@@ -206,20 +186,22 @@ module _ (d : Deck) {sound : Bool} (s : sound ≡ is_sound d) where
     pub said-inside : d.n ≤ 65534
     said-inside = ltb-false 65534 d.n (or-false (eqb d.n 0) (ltb 65534 d.n) (sound-sane d is-sound).size).1
 
-    pub said-silent : (d.phase ≡ 4 → ⊥) → Silent ≡ said_by d
+    pub said-silent : (ph : own.Phase) → doing ph ≡ phase_of d → ((start answer : ℕ) (checks : Checks) → ph ≡ own.Phase.Told start answer checks → ⊥)
+        → Silent ≡ said_by d
     unfolding said_by
-    said-silent h = rw (← s, e) (go d.phase refl (sound-sane d is-sound).phase h)
+    said-silent ph q h = rw (← s, e, ← q) (go ph h)
       where
-        go : (x : ℕ) → d.phase ≡ x → x ≤ 4 → (x ≡ 4 → ⊥) → Silent ≡ said_in d.n (phase_of d)
-        go zero e l h = unfold phase_of in (rw e)
-        go (suc zero) e l h = unfold phase_of in (rw e)
-        go (suc (suc zero)) e l h = unfold phase_of in (rw e)
-        go (suc (suc (suc zero))) e l h = unfold phase_of in (rw e)
-        go (suc (suc (suc (suc x)))) e l h = absurd (h (omega arith))
+        go : (ph : own.Phase) → ((start answer : ℕ) (checks : Checks) → ph ≡ own.Phase.Told start answer checks → ⊥) → Silent ≡ said_in d.n (doing ph)
+        go (own.Phase.Seeking matched) h = refl
+        go (own.Phase.InOne start place heard frame) h = refl
+        go (own.Phase.Between start heard) h = refl
+        go (own.Phase.InTwo start place heard frame checks) h = refl
+        go (own.Phase.Told start answer checks) h = absurd (h start answer checks refl)
 
-    pub said-answer : d.phase ≡ 4 → {o : Outcome Extent} → o ≡ outcome_by d.n d.start d.answer d.checks → Answered o ≡ said_by d
+    pub said-answer : {start answer : ℕ} {checks : Checks} → phase_of d ≡ Told start answer checks → {o : Outcome Extent}
+        → o ≡ outcome_by d.n start answer checks → Answered o ≡ said_by d
     unfolding said_by
-    said-answer h q = rw (← s, e, q) (unfold phase_of in (rw h))
+    said-answer h q = rw (← s, e, h, q)
 
 -- ---- The beginning
 
@@ -239,26 +221,34 @@ module _ (n work out : ℕ) {d : Deck} where
 pub inside-le : (most n : ℕ) → outside most n ≡ false → n ≤ most
 inside-le most n e = ltb-false most n (or-false (eqb n 0) (ltb most n) e).1
 
+-- ---- Refused calls, before an answer
+
+module _ (d : Deck) (count work out : ℕ) where
+  pub is-refused : (number : ℕ) → refusal_by d count work out ≡ Some number
+      → ((number ≡ 1) × (4294967295 < d.taken + count)) ⊎ ((number ≡ 2) × (d.taken + count ≤ 4294967295) × (fits d.n work out ≡ false))
+  unfolding refusal_by
+  is-refused number e = go (ltb 4294967295 (d.taken + count)) refl (fits d.n work out) refl e
+    where
+      go : (many : Bool) → ltb 4294967295 (d.taken + count) ≡ many → (room : Bool) → fits d.n work out ≡ room
+          → cond {A = Option ℕ} many (Some 1) (cond (not room) (Some 2) None) ≡ Some number
+          → ((number ≡ 1) × (4294967295 < d.taken + count)) ⊎ ((number ≡ 2) × (d.taken + count ≤ 4294967295) × (fits d.n work out ≡ false))
+      go true m room f e = inl (cc, ltb-true 4294967295 (d.taken + count) m)
+      go false m false f e = inr (cc, ltb-false 4294967295 (d.taken + count) m, f)
+      go false m true f e = absurd (let z : ◌≡◌ {A = ℕ} 0 1 = cc in omega arith)
+
+  pub not-refused : refusal_by d count work out ≡ None → (d.taken + count ≤ 4294967295) × (fits d.n work out ≡ true)
+  unfolding refusal_by
+  not-refused e = go (ltb 4294967295 (d.taken + count)) refl (fits d.n work out) refl e
+    where
+      go : (many : Bool) → ltb 4294967295 (d.taken + count) ≡ many → (room : Bool) → fits d.n work out ≡ room
+          → cond {A = Option ℕ} many (Some 1) (cond (not room) (Some 2) None) ≡ None → (d.taken + count ≤ 4294967295) × (fits d.n work out ≡ true)
+      go true m room f e = absurd (let z : ◌≡◌ {A = ℕ} 0 1 = cc in omega arith)
+      go false m false f e = absurd (let z : ◌≡◌ {A = ℕ} 0 1 = cc in omega arith)
+      go false m true f e = (ltb-false 4294967295 (d.taken + count) m, f)
+
 -- ---- The end
 
 module _ (d : Deck) where
-  pub finish-seeking : {r : Deck} → d.phase ≡ 0 → r ≡ deck_of d.n d.taken (Told 0 3 (deck_of 0 0 (Seeking 0)).checks) → r ≡ deck_of d.n d.taken (ended_in (phase_of d))
-  unfolding phase_of
-  finish-seeking e q = rw (e, q)
-
-  pub finish-cut : {r : Deck} → is_closed d ≡ false → (d.phase ≡ 0 → ⊥) → r ≡ deck_of d.n d.taken (Told d.start 4 (deck_of 0 0 (Seeking 0)).checks)
-      → r ≡ deck_of d.n d.taken (ended_in (phase_of d))
-  unfolding phase_of
-  finish-cut {r} o h q = q ∙ go d.phase refl (closed-open d o).early h
-    where
-      go : (x : ℕ) → d.phase ≡ x → x < 4 → (x ≡ 0 → ⊥)
-          → deck_of d.n d.taken (Told d.start 4 (deck_of 0 0 (Seeking 0)).checks) ≡ deck_of d.n d.taken (ended_in (phase_of d))
-      go zero e l h = absurd (h refl)
-      go (suc zero) e l h = rw e
-      go (suc (suc zero)) e l h = rw e
-      go (suc (suc (suc zero))) e l h = rw e
-      go (suc (suc (suc (suc x)))) e l h = absurd (omega arith)
-
   pub open-inside : is_closed d ≡ false → d.n ≤ 65534
   open-inside o = inside-le 65534 d.n (closed-open d o).sane.size
 
@@ -267,14 +257,17 @@ module _ (d : Deck) (work out : List ℕ) where
   unfolding take_end
   end-closed e t = rw (← e, t)
 
-  module _ {t : Bool} (e : t ≡ is_closed d) (h : t ≡ false) {room : Bool} (f : room ≡ fits d.n (length work) (length out)) where
-    pub end-room : room ≡ false → lent (deck_refusing 2 d) work out ≡ take_end (lent d work out)
+  module _ (o : is_closed d ≡ false) {r : Option ℕ} (f : r ≡ refusal_by d 0 (length work) (length out)) where
+    pub end-refused : {number : ℕ} → d.taken ≤ 4294967295 → r ≡ Some number → lent (deck_refusing number d) work out ≡ take_end (lent d work out)
     unfolding take_end if_lent
-    end-room g = rw (← e, h, ← f, g)
+    end-refused {number = number} l e = elim (is-refused d 0 (length work) (length out) number (sym f ∙ e)) [
+      | inl q ↦ absurd (omega (arith, q))
+      | inr q ↦ rw (o, q.2, q.0)
+    ]
 
-    pub end-ends : room ≡ true → {r : Deck} → r ≡ deck_of d.n d.taken (ended_in (phase_of d)) → lent r work out ≡ take_end (lent d work out)
+    pub end-ends : r ≡ None → {d' : Deck} → d' ≡ deck_of d.n d.taken (ended_in (phase_of d)) → lent d' work out ≡ take_end (lent d work out)
     unfolding take_end if_lent
-    end-ends g q = rw (← e, h, ← f, g, q)
+    end-ends e q = rw (o, (not-refused d 0 (length work) (length out) (sym f ∙ e)).1, q)
 
 -- ---- The payload that is filled in
 

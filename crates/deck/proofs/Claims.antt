@@ -7,7 +7,7 @@ use mathlib.Core.Path.{◌≡◌, refl, sym, ap, ◌∙◌}
 use mathlib.Core.Logic.{inl}
 use mathlib.Core.Bool.{Bool, true, false, not, ◌&&◌, ◌||◌}
 use mathlib.Core.List.{List, [], ◌∷◌, map, map-append}
-use mathlib.Core.Option.{Option, none, some}
+use Rattle.std.specs.Prelude.{Option, None, Some}
 use borrow.Author.Tests.{eq-eqb, le-ltb, ltb-false, leb-true}
 use lib.Dec.{eqb, leb, ltb, lit≤}
 use lib.ListN.{length, length-map}
@@ -269,17 +269,17 @@ reads = record {
 -- ---- Damage
 
 -- a block that the rule accepts is told without the end
-told-read : (cs : List Class) (n : ℕ) (b : BlockRead) → read_from cs 0 n ≡ accepted b → told_after cs n ≡ some (accepted b)
+told-read : (cs : List Class) (n : ℕ) (b : BlockRead) → read_from cs 0 n ≡ accepted b → told_after cs n ≡ Some (accepted b)
 unfolding read_from find_start read_at told_after
 told-read cs n b e =
     let s = and_then-accepted (start_at (start_of cs 0)) (λ p. read_at cs p n) b e in
     let p = s.0 in
     let within : end_of p n ≤ length cs = (read_at-accepted cs n b p s.2).0 in
-    rw (found (start_of cs 0) p s.1, le-ltb (length cs) (end_of p n) within) (ap some (rw (locate_copies-within (length cs) p n within) at s.2))
+    rw (found (start_of cs 0) p s.1, le-ltb (length cs) (end_of p n) within) (ap Some (rw (locate_copies-within (length cs) p n within) at s.2))
   where
-    found : (o : Option ℕ) (p : ℕ) → start_at o ≡ accepted p → o ≡ some p
-    found none p q = absurd (let z : ◌≡◌ {A = ℕ} 0 1 = cc in omega arith)
-    found (some r) p q = cc
+    found : (o : Option ℕ) (p : ℕ) → start_at o ≡ accepted p → o ≡ Some p
+    found None p q = absurd (let z : ◌≡◌ {A = ℕ} 0 1 = cc in omega arith)
+    found (Some r) p q = cc
 
 module _ (k : ℕ) (payload work out : List ℕ) (runs : List (List ℕ)) (leader : wrong_leader k ≡ false) (below : Below 256 payload)
     (b : Begins (length payload) work out) (d : Damaged fixed k payload (joined runs)) where

@@ -6,7 +6,7 @@ use native.Mathlib.Omega.{arith}
 use mathlib.Core.Path.{◌≡◌, refl, sym, ap, ◌∙◌}
 use mathlib.Core.Bool.{Bool, true, false, cond, not, ◌&&◌}
 use mathlib.Core.List.{List}
-use mathlib.Core.Option.{Option, none, some}
+use Rattle.std.specs.Prelude.{Option, None, Some}
 use borrow.Author.Tests.{ne_eqb, lt-ltb, le-ltb}
 use lib.Count.{ones}
 use lib.Dec.{eqb, ltb, lit≤}
@@ -29,15 +29,15 @@ use Rattle.deck.specs.Frame.{class_named, frame_of, fresh, earlier, with_bit, ta
 
 -- a place that was found, or `most` where there is none
 abbrev pub or_most : (most : ℕ) → Option ℕ → ℕ
-or_most most none = most
-or_most most (some i) = i
+or_most most None = most
+or_most most (Some i) = i
 
 -- one place more, at the end
-pub first_more : (f : ℕ → Bool) (i : ℕ) → first_from f (suc i) 0 ≡ or_else (first_from f i 0) (cond (f i) (some i) none)
+pub first_more : (f : ℕ → Bool) (i : ℕ) → first_from f (suc i) 0 ≡ or_else (first_from f i 0) (cond (f i) (Some i) None)
 unfolding first_from
 first_more f i = rw zero-add at (first-snoc f i 0)
 
-pub first-lt : (f : ℕ → Bool) (count i : ℕ) → first_from f count 0 ≡ some i → i < count
+pub first-lt : (f : ℕ → Bool) (count i : ℕ) → first_from f count 0 ≡ Some i → i < count
 first-lt f count i e = omega (arith, (some_first f count 0 i e).high)
 
 -- it is kept as the smaller one
@@ -46,12 +46,12 @@ pub first-earlier : (f : ℕ → Bool) (most i : ℕ) → i < most
 unfolding earlier
 first-earlier f most i h = rw (first_more f i) (go (f i) (first_from f i 0) (first-lt f i))
   where
-    go : (t : Bool) (o : Option ℕ) → ((j : ℕ) → o ≡ some j → j < i)
-        → or_most most (or_else o (cond t (some i) none)) ≡ cond (t && ltb i (or_most most o)) i (or_most most o)
-    go true none l = rw (lt-ltb i most h)
-    go true (some j) l = rw (le-ltb i j (omega (arith, l j refl)))
-    go false none l = refl
-    go false (some j) l = refl
+    go : (t : Bool) (o : Option ℕ) → ((j : ℕ) → o ≡ Some j → j < i)
+        → or_most most (or_else o (cond t (Some i) None)) ≡ cond (t && ltb i (or_most most o)) i (or_most most o)
+    go true None l = rw (lt-ltb i most h)
+    go true (Some j) l = rw (le-ltb i j (omega (arith, l j refl)))
+    go false None l = refl
+    go false (Some j) l = refl
 
 -- it is no larger than before
 pub earlier-le : (first i : ℕ) (fails : Bool) → earlier first i fails ≤ first
@@ -124,10 +124,10 @@ closed_is ys =
     let parity : (frame_after ys 20).bits / 256 ≡ nth_bit ys 9 = rw bits (omega arith) in
     rw (value, parity, wrong-after ys 10 (lit≤ tt)) (go v (nth_bit ys 9) (first_from (wrong_pair ys) 10 0) (first-lt (wrong_pair ys) 10))
   where
-    go : (v d : ℕ) (o : Option ℕ) → ((i : ℕ) → o ≡ some i → i < 10)
+    go : (v d : ℕ) (o : Option ℕ) → ((i : ℕ) → o ≡ Some i → i < 10)
         → cond (eqb (or_most 10 o) 10 && is_odd (ones v + d)) (Good v) (Bad (or_most 10 o)) ≡ checked o v d
-    go v d none l = refl
-    go v d (some i) l = rw (ne_eqb i 10 (λ e. omega (arith, l i refl)))
+    go v d None l = refl
+    go v d (Some i) l = rw (ne_eqb i 10 (λ e. omega (arith, l i refl)))
 
 -- the same at a place of a strip
 pub closed_at : (cs : List Class) (at : ℕ) → closed (frame_after (twenty cs at) 20) ≡ byte_at cs at

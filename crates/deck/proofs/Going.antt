@@ -6,7 +6,8 @@ use mathlib.Core.Path.{◌≡◌, refl, sym, ap, ◌∙◌}
 use mathlib.Core.Logic.{inl, inr}
 use mathlib.Core.Bool.{Bool, true, false, ◌&&◌}
 use mathlib.Core.List.{List, [], ◌∷◌, ◌++◌}
-use borrow.Author.Tests.{ne_eqb, leb-true}
+use Rattle.std.specs.Prelude.{Option, None, Some}
+use borrow.Author.Tests.{ne_eqb, lt-ltb, leb-true}
 use lib.Dec.{leb, lit<}
 use lib.ListN.{length, drop, get_or, length-drop, length-take, length-map, get_or-map, take-append-drop}
 use lib.Seq.{drop-cons, drop-drop, drop-length}
@@ -20,13 +21,14 @@ use Rattle.byte.specs.declared.ByteRead.TheVariants.{Good, Bad}
 use Rattle.byte.specs.Byte.{byte_at}
 use Rattle.byte.proofs.CauseLaws.{byte_at-most}
 use Rattle.deck.specs.declared.Deck.{Deck}
-use Rattle.deck.specs.Work.{fits, cause_byte}
+use Rattle.deck.specs.Work.{cause_byte}
 use Rattle.deck.specs.Step.{standing}
 use Rattle.deck.specs.Calls.{phase_of, is_sound, is_closed, Lent, lent, lent_of, deck_refusing, refusing, step_lent, steps_lent, take_run}
-use Rattle.deck.specs.private.Ready.{Ready, Roomy, Settles, settled, is_at_frame}
-use Rattle.deck.proofs.SoundLaws.{sound-sane, sane-sound, Open, closed-open}
+use Rattle.deck.specs.private.Ready.{Roomy, Settles, settles_in, refusal_by, settled, is_at_frame}
+use Rattle.deck.proofs.SoundLaws.{sound-sane, Open, closed-open}
 use Rattle.deck.proofs.CallLaws.{Went, run-closed, run-many, run_short, run-steps, refusing-sound, steps-told, steps-append, steps-went}
-use Rattle.deck.proofs.Stepping.{copy-small, roomy, at-frame, frame-steps}
+use Rattle.deck.proofs.Stepping.{phase-one, phase-two, one-small, two-small, roomy, at-frame, frame-steps}
+use Rattle.deck.proofs.Answering.{is-refused, not-refused}
 
 -- the class by the fixed thresholds
 pub class-fixed : (pulse : ℕ) {t : Thresholds} {r : Class} → t ≡ fixed → r ≡ class_of t pulse → r ≡ class_of fixed pulse
@@ -42,37 +44,33 @@ module _ (d : Deck) (work out : List ℕ) where
   pub take-closed : (cs : List Class) {t : Bool} → t ≡ is_closed d → t ≡ true → lent d work out ≡ take_run (lent d work out) cs
   take-closed cs e h = sym (run-closed (lent d work out) cs (sym e ∙ h))
 
-  module _ {t : Bool} (e : t ≡ is_closed d) (h : t ≡ false) where
-    pub take-many : (cs : List Class) → 4294967295 < d.taken + length cs → refusing 1 (lent d work out) ≡ take_run (lent d work out) cs
-    take-many cs l = sym (run-many (lent d work out) cs (sym e ∙ h) l)
+  module _ (o : is_closed d ≡ false) (cs : List Class) (count : ℕ) (m : length cs ≡ count)
+      {r : Option ℕ} (f : r ≡ refusal_by d count (length work) (length out)) where
+    pub take-refused : {number : ℕ} → r ≡ Some number → refusing number (lent d work out) ≡ take_run (lent d work out) cs
+    take-refused {number = number} e = elim (is-refused d count (length work) (length out) number (sym f ∙ e)) [
+      | inl q ↦ rw q.0 (sym (run-many (lent d work out) cs o (omega (arith, q))))
+      | inr q ↦ rw q.0 (sym (run_short (lent d work out) cs o (omega (arith, q.1)) q.2))
+    ]
 
-    module _ {r : Bool} (f : r ≡ fits d.n (length work) (length out)) where
-      pub take_short : (cs : List Class) → d.taken + length cs ≤ 4294967295 → r ≡ false → refusing 2 (lent d work out) ≡ take_run (lent d work out) cs
-      take_short cs l n = sym (run_short (lent d work out) cs (sym e ∙ h) l (sym f ∙ n))
+    pub take_steps : {l : Lent} → r ≡ None → l ≡ steps_lent (refusing 0 (lent d work out)) cs → l ≡ take_run (lent d work out) cs
+    take_steps e s =
+        let q = not-refused d count (length work) (length out) (sym f ∙ e) in
+        s ∙ sym (run-steps (lent d work out) cs o (omega (arith, q.0)) q.1)
 
-      pub take_steps : (cs : List Class) {l : Lent} → d.taken + length cs ≤ 4294967295 → r ≡ true
-          → l ≡ steps_lent (refusing 0 (lent d work out)) cs → l ≡ take_run (lent d work out) cs
-      take_steps cs l n s = s ∙ sym (run-steps (lent d work out) cs (sym e ∙ h) l (sym f ∙ n))
+  -- one pulse, whatever the last call said
+  module _ (o : is_closed d ≡ false) {r : Option ℕ} (f : r ≡ refusal_by d 1 (length work) (length out)) (e : r ≡ None) where
+    pub take-few : d.taken < 4294967295
+    take-few = omega (arith, (not-refused d 1 (length work) (length out) (sym f ∙ e)).0)
 
-      pub take-ready : d.taken < 4294967295 → r ≡ true → Ready d (length work) (length out)
-      take-ready l n =
-          let o = closed-open d (sym e ∙ h) in
-          let early = o.early in
-          record {
-            sound = sane-sound d o.sane;
-            going = ne_eqb d.phase 4 (λ z. omega arith);
-            room = sym f ∙ n;
-            few = l;
-          }
+    pub take-roomy : Roomy d.n (length work) (length out)
+    take-roomy = roomy d.n (length work) (length out) (closed-open d o).sane.size (not-refused d 1 (length work) (length out) (sym f ∙ e)).1
 
-      -- one pulse, whatever the last call said
-      pub take-one : (c : Class) {c' : Class} {l : Lent} → d.taken < 4294967295 → r ≡ true → c' ≡ c → l ≡ step_lent (lent d work out) c'
-          → l ≡ take_run (lent d work out) (c ∷ [])
-      unfolding steps_lent step_lent phase_of
-      take-one c k n q s =
-          let early = (closed-open d (sym e ∙ h)).early in
-          let other = ne_eqb d.phase 4 (λ z. omega arith) in
-          take_steps (c ∷ []) (omega arith) n (rw other (rw (q, other) at s))
+    pub take-one : (c : Class) {c' : Class} {l : Lent} → c' ≡ c → l ≡ step_lent (lent d work out) c' → l ≡ take_run (lent d work out) (c ∷ [])
+    unfolding steps_lent step_lent phase_of
+    take-one c q s =
+        let early = (closed-open d o).early in
+        let other = ne_eqb d.phase 4 (λ z. omega arith) in
+        take_steps o (c ∷ []) 1 refl f e (rw other (rw (q, other) at s))
 
 byte-cause : (cs : List Class) (at : ℕ) → cause_byte (byte_at cs at) < 256
 byte-cause cs at = go (byte_at cs at) refl
@@ -80,13 +78,6 @@ byte-cause cs at = go (byte_at cs at) refl
     go : (r : ByteRead) → byte_at cs at ≡ r → cause_byte r < 256
     go (Good v) e = lit< tt
     go (Bad cause) e = let h = byte_at-most cs at e in omega arith
-
--- how many pulses a strip has, by the test
-pub strip-many : (taken : ℕ) (pulses : List ℕ) → taken ≤ 4294967295 → 4294967295 - taken < length pulses → 4294967295 < taken + length (classes fixed pulses)
-strip-many taken pulses a h = let z = length-map pulses (class_of fixed) in omega arith
-
-pub strip-few : (taken : ℕ) (pulses : List ℕ) → taken ≤ 4294967295 → length pulses ≤ 4294967295 - taken → taken + length (classes fixed pulses) ≤ 4294967295
-strip-few taken pulses a h = let z = length-map pulses (class_of fixed) in omega arith
 
 -- ---- A run on its way
 
@@ -101,20 +92,20 @@ pub record Running (pulses : List ℕ) (d₀ : Deck) (work₀ out₀ : List ℕ)
   pub output : length out ≡ length out₀
   pub few : d.taken + (length pulses - i) ≤ 4294967295
 
-pub running-begun : (pulses : List ℕ) (d : Deck) (work out : List ℕ) {t r : Bool} → t ≡ is_closed d → t ≡ false
-    → r ≡ fits d.n (length work) (length out) → r ≡ true → d.taken + length pulses ≤ 4294967295
+pub running-begun : (pulses : List ℕ) (d : Deck) (work out : List ℕ) → is_closed d ≡ false
+    → {r : Option ℕ} → r ≡ refusal_by d (length pulses) (length work) (length out) → r ≡ None
     → Running pulses (deck_refusing 0 d) work out (deck_refusing 0 d) work out 0
-running-begun pulses d work out {t = t} {r = r} e h f n l =
-    let closed = sym e ∙ h in
+running-begun pulses d work out closed f e =
+    let q = not-refused d (length pulses) (length work) (length out) (sym f ∙ e) in
     record {
-      short = omega arith;
+      short = omega (arith, q.0);
       within = omega arith;
       whole = refl;
       sound = refusing-sound (lent d work out) 0 closed (omega arith);
-      room = roomy d.n (length work) (length out) (closed-open d closed).sane.size (sym f ∙ n);
+      room = roomy d.n (length work) (length out) (closed-open d closed).sane.size q.1;
       working = refl;
       output = refl;
-      few = omega arith;
+      few = omega (arith, q.0);
     }
 
 -- the next pulse of a strip
@@ -205,12 +196,13 @@ module _ (pulses : List ℕ) (d₀ : Deck) (work₀ out₀ : List ℕ) (d : Deck
   pub frame-settles : {read : ByteRead} → (d.phase ≡ 4 → ⊥) → is_at_frame d ≡ true → read ≡ byte_at cs i → Settles later read (length work) (length out)
   frame-settles h a q =
       let o = running-open h in
-      let w = (at-frame d a).copy in
+      let numbers : settles_in d.n (d.taken + 20) (phase_of later) ≡ true = elim (at-frame d a).copy [
+        | inl e ↦ rw (phase-later, phase-one d e) (lt-ltb d.place (d.n + 10) (one-small d o (phase-one d e)).place)
+        | inr e ↦ rw (phase-later, phase-two d e) (lt-ltb d.place (d.n + 10) (two-small d o (phase-two d e)).place)
+      ] in
       record {
         room = b.room;
-        phase = o.early;
-        seeking = λ z. absurd (elim w [ inl e ↦ (omega arith) | inr e ↦ (omega arith) ]);
-        place = λ y z. (copy-small d o y z).place;
+        numbers = numbers;
         cause = rw q (byte-cause cs i);
       }
 

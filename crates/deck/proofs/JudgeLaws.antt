@@ -5,7 +5,7 @@ use native.Mathlib.Omega.{arith}
 use mathlib.Core.Path.{◌≡◌, refl, sym, ap, ap₂, ◌∙◌}
 use mathlib.Core.Bool.{Bool, true, false, cond}
 use mathlib.Core.List.{List, [], ◌∷◌, ◌++◌}
-use mathlib.Core.Option.{Option, none, some}
+use Rattle.std.specs.Prelude.{Option, None, Some}
 use borrow.Author.Tests.{lt-ltb, le-ltb, le-leb, lt-leb}
 use lib.Bits.{bit_xor, xor_zero_r}
 use lib.Dec.{eqb, leb, ltb, lit≤}
@@ -57,14 +57,14 @@ module _ (cs : List Class) (p n : ℕ) where
 
   -- the causes of the first lost place
   abbrev causes_first : Option ℕ → Causes
-  causes_first none = record { one = 0; two = 0 }
-  causes_first (some i) = causes_at cs p q i
+  causes_first None = record { one = 0; two = 0 }
+  causes_first (Some i) = causes_at cs p q i
 
   abbrev checks_with : (failed lost : Option ℕ) (sum : ℕ) → Checks
   checks_with failed lost sum = checks_of (or_most (n + 1) lost) (or_most 9 failed) sum (causes_first lost).one (causes_first lost).two
 
   -- the countdown
-  checks-head : (i : ℕ) → i ≤ 9 → checks_after i ≡ checks_with (countdown_first i) none 0
+  checks-head : (i : ℕ) → i ≤ 9 → checks_after i ≡ checks_with (countdown_first i) None 0
   unfolding checks_after check_byte is_counted first_from
   checks-head zero h = refl
   checks-head (suc i) h =
@@ -89,16 +89,16 @@ module _ (cs : List Class) (p n : ℕ) where
       same_sum true = sym (xor_zero_r sum)
       same_sum false = refl
 
-      go : (place : Place) → place_at cs p q j ≡ place → (o : Option ℕ) → ((i : ℕ) → o ≡ some i → i < j)
-          → check_place n j place (checks_with failed o sum) ≡ checks_with failed (or_else o (cond (no_value place) (some j) none)) (summed j sum place)
-      go (FromOne v) e none l = refl
-      go (FromOne v) e (some i) l = refl
-      go (FromTwo v) e none l = refl
-      go (FromTwo v) e (some i) l = refl
-      go (Lost causes) e none l =
+      go : (place : Place) → place_at cs p q j ≡ place → (o : Option ℕ) → ((i : ℕ) → o ≡ Some i → i < j)
+          → check_place n j place (checks_with failed o sum) ≡ checks_with failed (or_else o (cond (no_value place) (Some j) None)) (summed j sum place)
+      go (FromOne v) e None l = refl
+      go (FromOne v) e (Some i) l = refl
+      go (FromTwo v) e None l = refl
+      go (FromTwo v) e (Some i) l = refl
+      go (Lost causes) e None l =
           rw (lt-ltb j (n + 1) (omega arith), e)
           (ap (λ x. checks_of j (or_most 9 failed) x causes.one causes.two) (same_sum (ltb j n)))
-      go (Lost causes) e (some i) l =
+      go (Lost causes) e (Some i) l =
           rw (le-ltb j i (omega (arith, l i refl)))
           (ap (λ x. checks_of i (or_most 9 failed) x (causes_at cs p q i).one (causes_at cs p q i).two) (same_sum (ltb j n)))
 
@@ -147,13 +147,13 @@ module _ (cs : List Class) (p n : ℕ) where
   outcome-is = rw checks-all
       (go (countdown_first 9) (first-lt (is_miscounted cs p q) 9) (lost_first (n + 1)) (first-lt (is_lost cs p q) (n + 1)) (sum_holds cs p q n))
     where
-      go : (failed : Option ℕ) → ((i : ℕ) → failed ≡ some i → i < 9) → (lost : Option ℕ) → ((i : ℕ) → lost ≡ some i → i < n + 1) → (holds : Bool)
+      go : (failed : Option ℕ) → ((i : ℕ) → failed ≡ Some i → i < 9) → (lost : Option ℕ) → ((i : ℕ) → lost ≡ Some i → i < n + 1) → (holds : Bool)
           → outcome_by n p (answer_with failed lost holds) (checks_with failed lost (checksum (values_at cs p q n)))
           ≡ mapped extent_of (outcome_with failed lost holds)
-      go (some i) f lost l holds = rw (lt-ltb i 9 (f i refl))
-      go none f (some i) l holds = rw (le-leb i n (omega (arith, l i refl)))
-      go none f none l true = rw (lt-leb (n + 1) n (omega arith))
-      go none f none l false = rw (lt-leb (n + 1) n (omega arith))
+      go (Some i) f lost l holds = rw (lt-ltb i 9 (f i refl))
+      go None f (Some i) l holds = rw (le-leb i n (omega (arith, l i refl)))
+      go None f None l true = rw (lt-leb (n + 1) n (omega arith))
+      go None f None l false = rw (lt-leb (n + 1) n (omega arith))
 
   pub filled_is : (work out : List ℕ) → payload_in n work ≡ values_at cs p q n
       → filled n answer_last work out ≡ put_at out 0 (puts (mapped payload_of (read_copies cs p n)))
@@ -164,10 +164,10 @@ module _ (cs : List Class) (p n : ℕ) where
       nothing : out ≡ put_at out 0 []
       nothing = sym (put_front out [] (omega arith))
 
-      go : (failed : Option ℕ) → ((i : ℕ) → failed ≡ some i → i < 9) → (lost : Option ℕ) → ((i : ℕ) → lost ≡ some i → i < n + 1) → (holds : Bool)
+      go : (failed : Option ℕ) → ((i : ℕ) → failed ≡ Some i → i < 9) → (lost : Option ℕ) → ((i : ℕ) → lost ≡ Some i → i < n + 1) → (holds : Bool)
           → cond (eqb (answer_with failed lost holds) 0) (put_at out 0 (values_at cs p q n)) out
           ≡ put_at out 0 (puts (mapped payload_of (outcome_with failed lost holds)))
-      go (some i) f lost l holds = rw (lt-ltb i 9 (f i refl)) nothing
-      go none f (some i) l holds = rw (le-leb i n (omega (arith, l i refl))) nothing
-      go none f none l true = rw (lt-leb (n + 1) n (omega arith))
-      go none f none l false = rw (lt-leb (n + 1) n (omega arith)) nothing
+      go (Some i) f lost l holds = rw (lt-ltb i 9 (f i refl)) nothing
+      go None f (Some i) l holds = rw (le-leb i n (omega (arith, l i refl))) nothing
+      go None f None l true = rw (lt-leb (n + 1) n (omega arith))
+      go None f None l false = rw (lt-leb (n + 1) n (omega arith)) nothing

@@ -5,7 +5,7 @@ use native.Mathlib.Omega.{arith}
 use mathlib.Core.Path.{◌≡◌, refl, sym, ap, ap₂, ◌∙◌}
 use mathlib.Core.Bool.{Bool, true, false, cond}
 use mathlib.Core.List.{List, [], ◌∷◌, ◌++◌}
-use mathlib.Core.Option.{none, some}
+use Rattle.std.specs.Prelude.{None, Some}
 use borrow.Author.Tests.{eq-eqb, eqb-true}
 use lib.Count.{ones}
 use lib.Dec.{lit<, lit≤}
@@ -246,8 +246,8 @@ not_found cs k s h b f p l t = elim (dec_le (p + 20) k) [
 ]
 
 -- the start is the one of the reading rule
-pub found-start : (cs : List Class) (p : ℕ) → Found cs p → start_of cs 0 ≡ some p
+pub found-start : (cs : List Class) (p : ℕ) → Found cs p → start_of cs 0 ≡ Some p
 found-start cs p r = start_of-first r.start r.least
 
-pub never-found : (cs : List Class) → NoStart cs (length cs) → start_of cs 0 ≡ none
+pub never-found : (cs : List Class) → NoStart cs (length cs) → start_of cs 0 ≡ None
 never-found cs f = start_of-nowhere (λ p s. f p (byte_at-within cs p 0x89 s.first) s)

@@ -1,5 +1,5 @@
 -- What one pulse comes to: heard, and, where something is whole with it, settled.
-use Prim.Native.Nat.{ℕ, zero, suc, ◌+◌, ◌-◌, ◌*◌, ◌/◌, ◌%◌, ◌≤◌, ◌<◌}
+use Prim.Native.Nat.{ℕ, suc, ◌+◌, ◌-◌, ◌*◌, ◌/◌, ◌%◌, ◌≤◌, ◌<◌}
 use native.Mathlib.Decide.{ℕ_discrete}
 use native.Mathlib.Omega.{arith}
 use native.Mathlib.Numerals.{add-one}
@@ -7,7 +7,7 @@ use mathlib.Core.Path.{◌≡◌, refl, sym, ap, ◌∙◌}
 use mathlib.Core.Logic.{◌⊎◌, inl, inr}
 use mathlib.Core.Bool.{Bool, true, false, cond, ◌&&◌, ◌||◌}
 use mathlib.Core.List.{List, [], ◌∷◌}
-use borrow.Author.Tests.{eq-eqb, ne_eqb, lt-ltb, le-ltb, ltb-true, ltb-false, leb-true, eqb-true}
+use borrow.Author.Tests.{eq-eqb, ne_eqb, lt-ltb, le-ltb, le-leb, ltb-true, ltb-false, leb-true, eqb-true}
 use lib.Count.{ones}
 use lib.Dec.{eqb, leb, ltb, lit<}
 use lib.ListN.{length, get_or, drop}
@@ -26,25 +26,17 @@ use Rattle.deck.specs.declared.Deck.{Deck}
 use Rattle.deck.specs.Frame.{frame_of, fresh, take_pulse, closed}
 use Rattle.deck.specs.Lead.{seek}
 use Rattle.deck.specs.Work.{fits, cause_byte, put_byte, get_byte}
-use Rattle.deck.specs.Judge.{no_checks, check_countdown, check_place, check_byte, mended, mend_byte, answer_by, filled}
+use Rattle.deck.specs.Judge.{check_countdown, check_place, check_byte, mended, mend_byte, answer_by, filled}
 use Rattle.deck.specs.Step.{Phase, Seeking, InOne, Between, InTwo, Told, Standing, standing, sought, placed, told, judged, step}
-use Rattle.deck.specs.Calls.{deck_of, phase_of, is_sound, is_closed, Lent, lent, lent_of, step_lent, steps_lent}
-use Rattle.deck.specs.private.Ready.{Ready, Roomy, Settles, Leaves, fed_in, whole_in, settled, is_at_frame}
+use Rattle.deck.specs.Calls.{deck_of, phase_of, lent, lent_of, step_lent, steps_lent}
+use Rattle.deck.specs.private.Ready.{Roomy, Settles, settles_in, fed_in, whole_in, settled, is_at_frame}
 use Rattle.deck.proofs.FrameLaws.{frame_after, closed_is, pulse-wrong}
 use Rattle.deck.proofs.LeadLaws.{seek-le}
 use Rattle.deck.proofs.Running.{steps}
-use Rattle.deck.proofs.SoundLaws.{phase-of, n-of, taken_of, sound-sane, is_told, open-phase, Open, closed-open}
+use Rattle.deck.proofs.SoundLaws.{phase-of, n-of, taken_of, is_told, open-phase, Open}
 use Rattle.deck.proofs.CallLaws.{Framed, framed, steps_of}
 
 -- ---- The phase by its number
-
--- in a copy
-one-or-three : (p : ℕ) → p < 4 → (p ≡ 0 → ⊥) → (p ≡ 2 → ⊥) → (p ≡ 1) ⊎ (p ≡ 3)
-one-or-three zero h a b = absurd (a refl)
-one-or-three (suc zero) h a b = inl refl
-one-or-three (suc (suc zero)) h a b = absurd (b refl)
-one-or-three (suc (suc (suc zero))) h a b = inr refl
-one-or-three (suc (suc (suc (suc p)))) h a b = absurd (omega arith)
 
 module _ (d : Deck) where
   pub phase-seeking : d.phase ≡ 0 → phase_of d ≡ Seeking d.heard
@@ -63,104 +55,58 @@ module _ (d : Deck) where
   unfolding phase_of
   phase-two e = rw e
 
-  -- what is left where it is none of the first three
-  pub phase-last : d.phase < 4 → (d.phase ≡ 0 → ⊥) → (d.phase ≡ 2 → ⊥) → (d.phase ≡ 1 → ⊥) → d.phase ≡ 3
-  phase-last h a b c = omega arith
-
   -- ---- The numbers of an open state
 
   module _ (o : Open d) where
-    pub seeking-small : d.phase ≡ 0 → (d.heard < 36) × (d.heard ≤ d.taken)
-    seeking-small e =
-        let h = and-true (ltb d.heard 36) (leb d.heard d.taken) (rw (phase-seeking e) at o.sane.numbers) in
-        (ltb-true d.heard 36 h.0, leb-true d.heard d.taken h.1)
+    pub seeking-small : {matched : ℕ} → phase_of d ≡ Seeking matched → (matched < 36) × (matched ≤ d.taken)
+    seeking-small {matched = matched} e =
+        let h = and-true (ltb matched 36) (leb matched d.taken) (rw e at o.sane.numbers) in
+        (ltb-true matched 36 h.0, leb-true matched d.taken h.1)
 
-    pub between-small : d.phase ≡ 2 → d.heard < 61
-    between-small e = ltb-true d.heard 61 (rw (phase-between e) at o.sane.numbers)
+    pub between-small : {start heard : ℕ} → phase_of d ≡ Between start heard → heard < 61
+    between-small {heard = heard} e = ltb-true heard 61 (rw e at o.sane.numbers)
 
-    pub copy-small : (d.phase ≡ 0 → ⊥) → (d.phase ≡ 2 → ⊥) → Framed d.n d.place d.heard d.frame.wrong
-    copy-small a b = elim (one-or-three d.phase o.early a b) [
-      | inl e ↦ framed d.n d.place d.heard d.frame.wrong (rw (phase-one e) at o.sane.numbers)
-      | inr e ↦ framed d.n d.place d.heard d.frame.wrong (rw (phase-two e) at o.sane.numbers)
-    ]
+    pub one-small : {start place heard : ℕ} {frame : Frame} → phase_of d ≡ InOne start place heard frame → Framed d.n place heard frame.wrong
+    one-small {place = place} {heard = heard} {frame = frame} e = framed d.n place heard frame.wrong (rw e at o.sane.numbers)
 
--- what is whole in a copy
-pub whole_copy : (d : Deck) → d.phase < 4 → (d.phase ≡ 0 → ⊥) → (d.phase ≡ 2 → ⊥) → eqb d.heard 20 ≡ whole_in (phase_of d)
-whole_copy d h a b = elim (one-or-three d.phase h a b) [ inl e ↦ rw (phase-one d e) | inr e ↦ rw (phase-two d e) ]
+    pub two-small : {start place heard : ℕ} {frame : Frame} {checks : Checks} → phase_of d ≡ InTwo start place heard frame checks
+        → Framed d.n place heard frame.wrong
+    two-small {place = place} {heard = heard} {frame = frame} e = framed d.n place heard frame.wrong (rw e at o.sane.numbers)
 
--- ---- A pulse is heard
-
-module _ (d : Deck) (c : Class) {r : Deck} where
-  pub fed-seeking : {m : ℕ} → d.phase ≡ 0 → m ≡ seek d.heard c → r ≡ deck_of d.n (d.taken + 1) (Seeking m)
-      → r ≡ deck_of d.n (suc d.taken) (fed_in (phase_of d) c)
-  fed-seeking e s w = rw (w, s, phase-seeking d e, add-one)
-
-  pub fed-between : d.phase ≡ 2 → r ≡ deck_of d.n (d.taken + 1) (Between d.start (d.heard + 1))
-      → r ≡ deck_of d.n (suc d.taken) (fed_in (phase_of d) c)
-  fed-between e w = rw (w, phase-between d e, add-one, add-one)
-
-  pub fed-one : {f : Frame} → d.phase ≡ 1 → f ≡ take_pulse d.heard d.frame c
-      → r ≡ deck_of d.n (d.taken + 1) (InOne d.start d.place (d.heard + 1) f)
-      → r ≡ deck_of d.n (suc d.taken) (fed_in (phase_of d) c)
-  fed-one e s w = rw (w, s, phase-one d e, add-one, add-one)
-
-  pub fed-two : {f : Frame} → d.phase ≡ 3 → f ≡ take_pulse d.heard d.frame c
-      → r ≡ deck_of d.n (d.taken + 1) (InTwo d.start d.place (d.heard + 1) f d.checks)
-      → r ≡ deck_of d.n (suc d.taken) (fed_in (phase_of d) c)
-  fed-two e s w = rw (w, s, phase-two d e, add-one, add-one)
+    pub none-told : {start answer : ℕ} {checks : Checks} → phase_of d ≡ Told start answer checks → ⊥
+    none-told e = let h = open-phase d o.early in let z : ◌≡◌ {A = ℕ} 0 1 = cc in omega arith
 
 -- ---- Something is settled
 
-pub placed-next : (n k start i : ℕ) (read : ByteRead) (work : List ℕ) {r : Deck} {f : Frame} {work' : List ℕ} → i + 1 < n + 10
-    → work' ≡ put_byte work i read → f ≡ fresh → r ≡ deck_of n k (InOne start (i + 1) 0 f) → Leaves n r work' (placed n k start i read work)
+pub placed-next : (n k start i : ℕ) (read : ByteRead) (work out : List ℕ) {f : Frame} {work' : List ℕ} → i + 1 < n + 10
+    → work' ≡ put_byte work i read → f ≡ fresh → standing k (InOne start (i + 1) 0 f) work' out ≡ placed n k start i read work out
 unfolding placed
-placed-next n k start i read work h w f e out = rw (ne_eqb (suc i) (n + 10) (λ z. omega arith), e, f, w, add-one)
+placed-next n k start i read work out h w f = rw (ne_eqb (suc i) (n + 10) (λ z. omega arith), f, w, add-one)
 
-pub placed-last : (n k start i : ℕ) (read : ByteRead) (work : List ℕ) {r : Deck} {work' : List ℕ} → i < n + 10 → (i + 1 < n + 10 → ⊥)
-    → work' ≡ put_byte work i read → r ≡ deck_of n k (Between start 0) → Leaves n r work' (placed n k start i read work)
+pub placed-last : (n k start i : ℕ) (read : ByteRead) (work out : List ℕ) {work' : List ℕ} → i < n + 10 → (i + 1 < n + 10 → ⊥)
+    → work' ≡ put_byte work i read → standing k (Between start 0) work' out ≡ placed n k start i read work out
 unfolding placed
-placed-last n k start i read work l h w e out = rw (eq-eqb (suc i) (n + 10) (omega arith), e, w)
+placed-last n k start i read work out l h w = rw (eq-eqb (suc i) (n + 10) (omega arith), w)
 
 module _ (n k start i : ℕ) (two : ByteRead) (checks : Checks) (work out : List ℕ) where
-  abbrev after : Lent
-  after = lent_of n (judged n k start i (get_byte work i) two checks work out)
+  abbrev after : Standing
+  after = judged n k start i (get_byte work i) two checks work out
 
-  module _ {one : ByteRead} (e : one ≡ get_byte work i) {r : Deck} {more : Checks} where
+  module _ {one : ByteRead} (e : one ≡ get_byte work i) {more : Checks} where
     pub judged-countdown : {f : Frame} → i < 9 → more ≡ check_countdown i one two checks → f ≡ fresh
-        → r ≡ deck_of n k (InTwo start (i + 1) 0 f more) → lent r work out ≡ after
+        → standing k (InTwo start (i + 1) 0 f more) work out ≡ after
     unfolding judged check_byte mend_byte
-    judged-countdown h m f w = rw (ne_eqb (suc i) (n + 10) (λ z. omega arith), lt-ltb i 9 h, w, f, m, e, add-one)
+    judged-countdown h m f = rw (ne_eqb (suc i) (n + 10) (λ z. omega arith), lt-ltb i 9 h, f, m, e, add-one)
 
     module _ {p : Place} (s : p ≡ place_of one two) (h : 9 ≤ i) (m : more ≡ check_place n (i - 9) p checks) {work' : List ℕ} (w : work' ≡ mended work i p) where
-      pub judged-next : {f : Frame} → i - 9 < n → f ≡ fresh → r ≡ deck_of n k (InTwo start (i + 1) 0 f more) → lent r work' out ≡ after
+      pub judged-next : {f : Frame} → i - 9 < n → f ≡ fresh → standing k (InTwo start (i + 1) 0 f more) work' out ≡ after
       unfolding judged check_byte mend_byte
-      judged-next l f z = rw (ne_eqb (suc i) (n + 10) (λ z. omega arith), le-ltb i 9 h, z, f, m, w, s, e, add-one)
+      judged-next l f = rw (ne_eqb (suc i) (n + 10) (λ z. omega arith), le-ltb i 9 h, f, m, w, s, e, add-one)
 
       pub judged-last : {answer value : ℕ} {out' : List ℕ} → i < n + 10 → n ≤ i - 9 → answer ≡ answer_by n value more → value ≡ place_value p
-          → out' ≡ filled n answer work' out → r ≡ deck_of n k (Told start answer more) → lent r work' out' ≡ after
+          → out' ≡ filled n answer work' out → standing k (Told start answer more) work' out' ≡ after
       unfolding judged check_byte mend_byte told
-      judged-last b l a v q z = rw (eq-eqb (suc i) (n + 10) (omega arith), le-ltb i 9 h, z, q, a, v, m, w, s, e)
-
-module _ (d : Deck) (read : ByteRead) (work out : List ℕ) where
-  abbrev settling : Lent
-  settling = lent_of d.n (settled d.n (standing d.taken (phase_of d) work out) read)
-
-  module _ {r : Deck} {work' : List ℕ} where
-    pub settled-seeking : {f : Frame} → d.phase ≡ 0 → work' ≡ put_byte work 0 (Good 0x89) → f ≡ fresh
-        → r ≡ deck_of d.n d.taken (InOne (d.taken - 20) 1 0 f) → lent r work' out ≡ settling
-    settled-seeking e w f z = rw (phase-seeking d e, z, f, w)
-
-    pub settled-between : {f : Frame} {checks : Checks} → d.phase ≡ 2 → work' ≡ work → f ≡ fresh → checks ≡ no_checks d.n
-        → r ≡ deck_of d.n d.taken (InTwo d.start 0 0 f checks) → lent r work' out ≡ settling
-    settled-between e w f m z = rw (phase-between d e, z, f, m, w)
-
-    pub settled-one : d.phase ≡ 1 → Leaves d.n r work' (placed d.n d.taken d.start d.place read work) → lent r work' out ≡ settling
-    settled-one e w = rw (phase-one d e) (w out)
-
-    pub settled-two : {out' : List ℕ} → d.phase ≡ 3
-        → lent r work' out' ≡ lent_of d.n (judged d.n d.taken d.start d.place (get_byte work d.place) read d.checks work out)
-        → lent r work' out' ≡ settling
-    settled-two e w = rw (phase-two d e) w
+      judged-last b l a v q = rw (eq-eqb (suc i) (n + 10) (omega arith), le-ltb i 9 h, q, a, v, m, w, s, e)
 
 -- ---- One pulse
 
@@ -216,74 +162,40 @@ roomy n work out e f =
     let g = and-true (leb (2 * (n + 10)) work) (leb n out) f in
     record { most = ltb-false 65534 n h.1; working = leb-true (2 * (n + 10)) work g.0; payload = leb-true n out g.1 }
 
+-- there is no answer yet
+pub settles-early : {d : Deck} {read : ByteRead} {work out start answer : ℕ} {checks : Checks} → Settles d read work out → phase_of d ≡ Told start answer checks → ⊥
+settles-early s e = let h = rw e at s.numbers in let z : ◌≡◌ {A = ℕ} 0 1 = cc in omega arith
+
 -- after a pulse was heard that makes something whole
 module _ (d : Deck) (o : Open d) (c : Class) (work out : ℕ) (room : Roomy d.n work out) where
   settles-in : (ph : Phase) → phase_of d ≡ ph → whole_in (fed_in ph c) ≡ true
-      → (let fed = deck_of d.n (suc d.taken) (fed_in ph c) in Settles fed (closed fed.frame) work out)
+      → (let fed = deck_of d.n (suc d.taken) (fed_in ph c) in
+      (settles_in d.n (suc d.taken) (fed_in ph c) ≡ true) × (cause_byte (closed fed.frame) < 256))
   settles-in (Seeking matched) e h =
       let z = eqb-true (seek matched c) 36 h in
       let l = seek-le matched c in
-      let b = and-true (ltb matched 36) (leb matched d.taken) (rw e at o.sane.numbers) in
-      let g = leb-true matched d.taken b.1 in
-      record {
-        room = room;
-        phase = lit< tt;
-        seeking = λ _. omega arith;
-        place = λ a _. absurd (a refl);
-        cause = closed-cause (frame_of 0 0 0) (omega arith);
-      }
+      let b = seeking-small d o e in
+      (le-leb 20 (suc d.taken) (omega (arith, b)), closed-cause (frame_of 0 0 0) (omega arith))
   settles-in (InOne start i heard frame) e h =
-      let b = framed d.n i heard frame.wrong (rw e at o.sane.numbers) in
-      record {
-        room = room;
-        phase = lit< tt;
-        seeking = λ z. absurd (omega arith);
-        place = λ _ _. b.place;
-        cause = closed-cause (take_pulse heard frame c) (pulse-wrong heard frame c b.wrong);
-      }
-  settles-in (Between start heard) e h = record {
-    room = room;
-    phase = lit< tt;
-    seeking = λ z. absurd (omega arith);
-    place = λ _ a. absurd (a refl);
-    cause = closed-cause (frame_of 0 0 0) (omega arith);
-  }
+      let b = one-small d o e in
+      (lt-ltb i (d.n + 10) b.place, closed-cause (take_pulse heard frame c) (pulse-wrong heard frame c b.wrong))
+  settles-in (Between start heard) e h = (refl, closed-cause (frame_of 0 0 0) (omega arith))
   settles-in (InTwo start i heard frame checks) e h =
-      let b = framed d.n i heard frame.wrong (rw e at o.sane.numbers) in
-      record {
-        room = room;
-        phase = lit< tt;
-        seeking = λ z. absurd (omega arith);
-        place = λ _ _. b.place;
-        cause = closed-cause (take_pulse heard frame c) (pulse-wrong heard frame c b.wrong);
-      }
+      let b = two-small d o e in
+      (lt-ltb i (d.n + 10) b.place, closed-cause (take_pulse heard frame c) (pulse-wrong heard frame c b.wrong))
   settles-in (Told start answer checks) e h = absurd (let z : ◌≡◌ {A = ℕ} 0 1 = cc in omega arith)
 
   pub fed-settles : {fed : Deck} {t : Bool} {read : ByteRead} → fed ≡ deck_of d.n (suc d.taken) (fed_in (phase_of d) c)
       → t ≡ whole_in (phase_of fed) → t ≡ true → read ≡ closed fed.frame → Settles fed read work out
   fed-settles e t h q =
-      let w : whole_in (fed_in (phase_of d) c) ≡ true = rw (e, phase-of d.n (suc d.taken) (fed_in (phase_of d) c)) at (sym t ∙ h) in
-      rw (q, e) (settles-in (phase_of d) refl w)
-
-pub fed-early : (d : Deck) → Open d → (c : Class) {fed : Deck} → fed ≡ deck_of d.n (suc d.taken) (fed_in (phase_of d) c) → fed.phase < 4
-fed-early d o c e = rw e (go (phase_of d) (open-phase d o.early))
-  where
-    go : (ph : Phase) → is_told ph ≡ false → (deck_of d.n (suc d.taken) (fed_in ph c)).phase < 4
-    go (Seeking matched) t = lit< tt
-    go (InOne start i heard frame) t = lit< tt
-    go (Between start heard) t = lit< tt
-    go (InTwo start i heard frame checks) t = lit< tt
-    go (Told start answer checks) t = absurd (let z : ◌≡◌ {A = ℕ} 0 1 = cc in omega arith)
-
--- what `step` asks for
-pub ready-open : {d : Deck} {work out : ℕ} → Ready d work out → Open d
-ready-open {d = d} r = closed-open d (ready-shut d r.sound r.going)
-  where
-    ready-shut : (d : Deck) → is_sound d ≡ true → eqb d.phase 4 ≡ false → is_closed d ≡ false
-    ready-shut d s g = unfold is_closed in (rw (s, g))
-
-pub ready-roomy : {d : Deck} {work out : ℕ} → Ready d work out → Roomy d.n work out
-ready-roomy {d = d} {work = work} {out = out} r = roomy d.n work out (sound-sane d r.sound).size r.room
+      let after = fed_in (phase_of d) c in
+      let w : whole_in after ≡ true = rw (e, phase-of d.n (suc d.taken) after) at (sym t ∙ h) in
+      let s = settles-in (phase_of d) refl w in
+      rw (q, e) (record {
+        room = rw (n-of d.n (suc d.taken) after) room;
+        numbers = rw (phase-of d.n (suc d.taken) after, n-of d.n (suc d.taken) after, taken_of d.n (suc d.taken) after) s.0;
+        cause = s.1;
+      })
 
 -- ---- A whole frame
 

@@ -6,7 +6,7 @@ use native.Mathlib.Omega.{arith}
 use mathlib.Core.Path.{◌≡◌, refl, sym, ap, ◌∙◌}
 use mathlib.Core.Bool.{Bool, true, false, cond, ◌||◌}
 use mathlib.Core.List.{List, []}
-use mathlib.Core.Option.{none, some}
+use Rattle.std.specs.Prelude.{None, Some}
 use borrow.Author.Tests.{eq-eqb, ne_eqb, lt-ltb, le-ltb}
 use lib.Dec.{eqb, ltb}
 use lib.ListN.{length, get_or}
@@ -45,21 +45,21 @@ module _ (cs : List Class) (n : ℕ) (w₀ o₀ : List ℕ) where
   -- ---- The byte that stands at a place
 
   module _ (p x : ℕ) where
-    stands-none : taken < byte_place p x + 20 → stands_at cs p n x ≡ none
+    stands-none : taken < byte_place p x + 20 → stands_at cs p n x ≡ None
     unfolding stands_at
     stands-none h = rw (lt-ltb taken (byte_place p x + 20) h)
 
-    stands_one : byte_place p x + 20 ≤ taken → taken < byte_place (copy_two p n) x + 20 → stands_at cs p n x ≡ some (one cs n w₀ o₀ p x)
+    stands_one : byte_place p x + 20 ≤ taken → taken < byte_place (copy_two p n) x + 20 → stands_at cs p n x ≡ Some (one cs n w₀ o₀ p x)
     unfolding stands_at
     stands_one h l = rw (le-ltb taken (byte_place p x + 20) h, lt-ltb taken (byte_place (copy_two p n) x + 20) l, or_right (ltb x 9) true refl)
 
-    stands-two : byte_place (copy_two p n) x + 20 ≤ taken → stands_at cs p n x ≡ some (settled x (one cs n w₀ o₀ p x) (two cs n w₀ o₀ p x))
+    stands-two : byte_place (copy_two p n) x + 20 ≤ taken → stands_at cs p n x ≡ Some (settled x (one cs n w₀ o₀ p x) (two cs n w₀ o₀ p x))
     unfolding stands_at
     stands-two h =
         rw (le-ltb taken (byte_place p x + 20) (omega arith), le-ltb taken (byte_place (copy_two p n) x + 20) h)
         (go (ltb x 9) (one cs n w₀ o₀ p x) (two cs n w₀ o₀ p x))
       where
-        go : (t : Bool) (one two : ByteRead) → cond (t || false) (some one) (some (kept one two)) ≡ some (cond t one (kept one two))
+        go : (t : Bool) (one two : ByteRead) → cond (t || false) (Some one) (Some (kept one two)) ≡ Some (cond t one (kept one two))
         go true one two = refl
         go false one two = refl
 
@@ -99,15 +99,15 @@ module _ (cs : List Class) (n : ℕ) (w₀ o₀ : List ℕ) where
 
   -- ---- What is told
 
-  told_none : start_of cs 0 ≡ none → told_after cs n ≡ none
+  told_none : start_of cs 0 ≡ None → told_after cs n ≡ None
   unfolding told_after
   told_none e = rw e
 
-  told-early : (p : ℕ) → Found cs p → taken < end_of p n → told_after cs n ≡ none
+  told-early : (p : ℕ) → Found cs p → taken < end_of p n → told_after cs n ≡ None
   unfolding told_after
   told-early p f h = rw (found-start cs p f, lt-ltb taken (end_of p n) h)
 
-  told-late : (p : ℕ) → Found cs p → end_of p n ≤ taken → told_after cs n ≡ some (read_copies cs p n)
+  told-late : (p : ℕ) → Found cs p → end_of p n ≤ taken → told_after cs n ≡ Some (read_copies cs p n)
   unfolding told_after
   told-late p f h = rw (found-start cs p f, le-ltb taken (end_of p n) h)
 
@@ -117,7 +117,7 @@ module _ (cs : List Class) (n : ℕ) (w₀ o₀ : List ℕ) where
     pub out : o ≡ out_with (told_after cs n) o₀
     pub work : w ≡ work_after cs n w₀
 
-  quiet : (ph : Phase) (w o : List ℕ) → said_in n ph ≡ Silent → told_after cs n ≡ none → o ≡ o₀ → w ≡ work_after cs n w₀ → Shows ph w o
+  quiet : (ph : Phase) (w o : List ℕ) → said_in n ph ≡ Silent → told_after cs n ≡ None → o ≡ o₀ → w ≡ work_after cs n w₀ → Shows ph w o
   quiet ph w o s e out work = record { says = rw e s; out = rw e out; work = work }
 
   abbrev pub ShowsAt : Standing → Type 0
@@ -151,7 +151,7 @@ module _ (cs : List Class) (n : ℕ) (w₀ o₀ : List ℕ) where
 
   -- ---- After the end is told
 
-  read_none : start_of cs 0 ≡ none → read_from cs 0 n ≡ and_then (start_at none) (λ p. read_at cs p n)
+  read_none : start_of cs 0 ≡ None → read_from cs 0 n ≡ and_then (start_at None) (λ p. read_at cs p n)
   unfolding read_from find_start
   read_none e = rw e
 

@@ -2,11 +2,10 @@
 use Rattle.std.specs.Prelude.{ℕ, ◌+◌, Bool, cond, not, ◌&&◌, ◌||◌, List, [], ◌∷◌, eqb, leb, ltb, length}
 use Rattle.refusal.specs.declared.Reason.TheVariants.{WrongSize, NoRoom, NoStart, CutShort, WrongCountdown, LostByte, WrongChecksum}
 use Rattle.refusal.specs.Refusal.{Why, refusal_at, why_of}
-use Rattle.refusal.specs.Outcome.{Outcome, accepted, refuse}
+use Rattle.refusal.specs.Outcome.{Outcome, accepted, refuse, outcome_of}
 use Rattle.pulse.specs.declared.Class.{Class}
 use Rattle.start.specs.Copies.{end_of}
 use Rattle.block.specs.declared.Extent.{Extent}
-use Rattle.block.specs.Reading.{block_answer}
 use Rattle.deck.specs.declared.Frame.{Frame}
 use Rattle.deck.specs.declared.Checks.{Checks}
 use Rattle.deck.specs.declared.Deck.{Deck}
@@ -180,5 +179,5 @@ said_by d =
 -- what is answered
 abbrev pub saying_of : Said → Saying
 saying_of Nothing = Silent
-saying_of (Answer answer) = Answered (block_answer answer)
+saying_of (Answer answer) = Answered (outcome_of answer)
 saying_of (Refused r) = Denied (why_of r)

@@ -1,6 +1,6 @@
 -- What holds of the reader by pulses (document 02, Q-7).
 use Rattle.std.specs.Prelude.{ℕ, ◌+◌, ◌*◌, ◌/◌, ◌%◌, ◌≤◌, ◌<◌, ◌≡◌, ◌⊎◌, Bool, true, false, cond, ◌||◌, List, [], ◌∷◌, ◌++◌, map, eqb, ltb, length, get_or}
-use Rattle.std.proofs.Math.Option.{Option, none, some}
+use Rattle.std.specs.Prelude.{Option, None, Some}
 use Rattle.lists.specs.Places.{tabulate, Below}
 use Rattle.lists.specs.Buffer.{put_at}
 use Rattle.refusal.specs.declared.Reason.{Reason}
@@ -63,19 +63,19 @@ refused_for reason = Denied (why_of (refusal_at reason 0))
 
 -- what is told after these pulses, before the end is: nothing while there is no start or copy two is not over
 abbrev pub told_from : Option ℕ → (cs : List Class) (n : ℕ) → Option (Outcome BlockRead)
-told_from none cs n = none
-told_from (some p) cs n = cond (ltb (length cs) (end_of p n)) none (some (read_copies cs p n))
+told_from None cs n = None
+told_from (Some p) cs n = cond (ltb (length cs) (end_of p n)) None (Some (read_copies cs p n))
 
 unfoldable pub told_after : (cs : List Class) (n : ℕ) → Option (Outcome BlockRead)
 told_after cs n = told_from (start_of cs 0) cs n
 
 abbrev pub saying_with : Option (Outcome BlockRead) → Saying
-saying_with none = Silent
-saying_with (some o) = Answered (mapped extent_of o)
+saying_with None = Silent
+saying_with (Some o) = Answered (mapped extent_of o)
 
 abbrev pub out_with : Option (Outcome BlockRead) → (out : List ℕ) → List ℕ
-out_with none out = out
-out_with (some o) out = put_at out 0 (puts (mapped payload_of o))
+out_with None out = out
+out_with (Some o) out = put_at out 0 (puts (mapped payload_of o))
 
 -- a good byte of copy two replaces a bad one
 abbrev pub kept : (one two : ByteRead) → ByteRead
@@ -89,17 +89,17 @@ unfoldable pub stands_at : (cs : List Class) (p n i : ℕ) → Option ByteRead
 stands_at cs p n i =
     let one = byte_at cs (byte_place p i) in
     let two = byte_at cs (byte_place (copy_two p n) i) in
-    cond (ltb (length cs) (byte_place p i + 20)) none
-    (cond (ltb i 9 || ltb (length cs) (byte_place (copy_two p n) i + 20)) (some one) (some (kept one two)))
+    cond (ltb (length cs) (byte_place p i + 20)) None
+    (cond (ltb i 9 || ltb (length cs) (byte_place (copy_two p n) i + 20)) (Some one) (Some (kept one two)))
 
 -- byte b of the working buffer, where `held` stood
 abbrev pub byte_with : Option ByteRead → (b held : ℕ) → ℕ
-byte_with none b held = held
-byte_with (some r) b held = cond (eqb (b % 2) 0) (value_byte r) (cause_byte r)
+byte_with None b held = held
+byte_with (Some r) b held = cond (eqb (b % 2) 0) (value_byte r) (cause_byte r)
 
 abbrev pub work_byte : Option ℕ → (cs : List Class) (n b held : ℕ) → ℕ
-work_byte none cs n b held = held
-work_byte (some p) cs n b held = cond (ltb b (2 * (n + 10))) (byte_with (stands_at cs p n (b / 2)) b held) held
+work_byte None cs n b held = held
+work_byte (Some p) cs n b held = cond (ltb b (2 * (n + 10))) (byte_with (stands_at cs p n (b / 2)) b held) held
 
 -- the working buffer after these pulses; bytes past 2(n + 10) never change
 unfoldable pub work_after : (cs : List Class) (n : ℕ) (work : List ℕ) → List ℕ

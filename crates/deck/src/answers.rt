@@ -1,66 +1,63 @@
 // What a call says.
 ghost use Rattle.std.specs.Prelude.{◌≤◌, ◌≡◌, cond, eqb};
-ghost use Rattle.block.specs.Reading.{block_answer};
+ghost use Rattle.refusal.specs.Outcome.{outcome_of};
 ghost use Rattle.deck.specs.Calls.{outcome_by, said_by, saying_of};
 
-use super::{ANSWERED, Deck, Said, state};
-use block::{BlockAnswer, Extent};
-use refusal::{Causes, Reason};
+use super::{Checks, Deck, Said, state};
+use block::Extent;
+use refusal::{Causes, Reason, Refusal};
+use state::Phase;
 
 pub fn said(deck: Deck) -> Said
     ensures { saying_of result ≡ said_by deck }
 {
-    if !state::is_sound(deck) | (deck.refused != 0) {
-        return Said::Refused(refusal::at(reason_of(deck.refused), 0));
+    if !deck.is_sound() | (deck.refused != 0) {
+        return Said::Refused(reason_of(deck.refused).into());
     }
-    if deck.phase != ANSWERED {
+    let Phase::Told {
+        start,
+        answer,
+        checks,
+    } = deck.phase()
+    else {
         return Said::Nothing;
-    }
-    Said::Answer(answer_in(deck))
+    };
+    Said::Answer(answer_in(deck.n, start, answer, checks))
 }
 
 // Why a call was refused. A state that is not sound was refused too.
 fn reason_of(refused: u8) -> Reason
     ensures { result ≡ cond (eqb refused 2) Reason.NoRoom Reason.WrongSize }
 {
-    if refused == state::NO_ROOM {
-        Reason::NoRoom
-    } else {
-        Reason::WrongSize
+    match refused {
+        state::NO_ROOM => Reason::NoRoom,
+        _ => Reason::WrongSize,
     }
 }
 
 // The answer by its number.
-fn answer_in(deck: Deck) -> BlockAnswer
-    requires { deck.n ≤ 65534 }
-    ensures { block_answer result ≡ outcome_by deck.n deck.start deck.answer deck.checks }
+fn answer_in(n: u32, start: u32, answer: u8, checks: Checks) -> Result<Extent, Refusal>
+    requires { n ≤ 65534 }
+    ensures { outcome_of result ≡ outcome_by n start answer checks }
 {
-    let n = deck.n as usize;
-    let start = deck.start as usize;
-    let answer = deck.answer;
-    let checks = deck.checks;
-    if answer == 0 {
-        return BlockAnswer::Accepted(Extent {
+    let n = n as usize;
+    let start = start as usize;
+    match answer {
+        state::ACCEPTED => Ok(Extent {
             n,
             start,
             end: start + 2 * byte::BYTE_PULSES * (n + start::EXTRA_BYTES) + start::TRAILER_PULSES,
-        });
+        }),
+        state::NO_START => Err(Reason::NoStart.into()),
+        state::CUT_SHORT => Err(Refusal::at(Reason::CutShort, start)),
+        state::WRONG_COUNTDOWN => Err(Refusal::at(Reason::WrongCountdown, checks.failed as usize)),
+        state::LOST_BYTE => {
+            let causes = Causes {
+                one: checks.one,
+                two: checks.two,
+            };
+            Err(Refusal::at(Reason::LostByte(causes), checks.lost as usize))
+        }
+        _ => Err(Refusal::at(Reason::WrongChecksum, n)),
     }
-    if answer == 3 {
-        return BlockAnswer::Refused(refusal::at(Reason::NoStart, 0));
-    }
-    if answer == 4 {
-        return BlockAnswer::Refused(refusal::at(Reason::CutShort, start));
-    }
-    if answer == 5 {
-        return BlockAnswer::Refused(refusal::at(Reason::WrongCountdown, checks.failed as usize));
-    }
-    if answer == 6 {
-        let causes = Causes {
-            one: checks.one,
-            two: checks.two,
-        };
-        return BlockAnswer::Refused(refusal::at(Reason::LostByte(causes), checks.lost as usize));
-    }
-    BlockAnswer::Refused(refusal::at(Reason::WrongChecksum, n))
 }

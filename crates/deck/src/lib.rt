@@ -16,20 +16,23 @@ mod state;
 mod step;
 mod work;
 
-ghost use Rattle.std.specs.Prelude.{◌≡◌, [], ◌∷◌};
+ghost use Rattle.std.specs.Prelude.{◌≡◌, ◌≤◌, [], ◌∷◌};
 ghost use Rattle.pulse.specs.Pulse.{class_of, fixed, classes};
 ghost use Rattle.deck.specs.Calls.{lent, begin_deck, take_run, take_end, said_by, saying_of};
+ghost use Rattle.deck.specs.private.Ready.{refusal_by};
 
-use block::BlockAnswer;
+use block::Extent;
 use pulse::{Cycles, Thresholds};
 use refusal::Refusal;
+use state::Phase;
 
-// The largest payload here, and how many pulses a deck takes.
+// The largest payload here, and how many pulses a deck takes. Numbers that a struct keeps are of 32 bits or 8, for C.
 pub const MOST_BYTES: usize = 65534;
 
 pub const MOST_PULSES: u32 = 0xffff_ffff;
 
-// What a deck is doing: looking for the start, in copy one, between the copies, in copy two; or it has answered.
+// The numbers of what a deck is doing, for C, of which state::Phase has the cases: looking for the start, in copy one, between the copies, in
+// copy two; or it has answered.
 pub const SEEKING: u8 = 0;
 
 pub const IN_ONE: u8 = 1;
@@ -39,6 +42,9 @@ pub const BETWEEN: u8 = 2;
 pub const IN_TWO: u8 = 3;
 
 pub const ANSWERED: u8 = 4;
+
+// The three structs are handed to C and back by value, and any numbers in them are taken: so a phase, an answer, a class and a cause are numbers
+// here, and what is not there yet is one past the last. Inside, a phase is `state::Phase`.
 
 // A frame of which not all twenty pulses are in: its bits so far, the class of its last pulse, and its first wrong pair, or 10.
 #[repr(C)]
@@ -78,49 +84,47 @@ pub struct Deck {
     pub checks: Checks,
 }
 
-// What the last call said: nothing yet, the answer, or that it was refused.
+// What the last call said: nothing yet, the answer, or that it was refused. An enum of its own, since it has three cases.
 #[derive(Clone, Copy)]
 pub enum Said {
     Nothing,
-    Answer(BlockAnswer),
+    Answer(Result<Extent, Refusal>),
     Refused(Refusal),
 }
 
 impl Deck {
     // A deck for a block of n payload bytes. It refuses a wrong n, and a working buffer or an output that is too short; then every later call
     // is refused likewise.
+    #[tactic(auto, unfolding(crate::specs::Calls::begin_deck))]
     pub fn begin(n: usize, working: usize, room: usize) -> Deck
         ensures { result ≡ begin_deck n working room }
     {
+        // `block::wrong_size` has another bound.
         if (n == 0) | (MOST_BYTES < n) {
-            return state::not_begun(state::WRONG_SIZE);
+            return Deck::not_begun(state::WRONG_SIZE);
         }
         if !work::has_room(n, working, room) {
-            return state::not_begun(state::NO_ROOM);
+            return Deck::not_begun(state::NO_ROOM);
         }
-        state::seeking(n as u32, 0, 0)
+        Phase::Seeking { matched: 0 }.deck(n as u32, 0)
     }
 
     // Takes one pulse.
     pub fn pulse(mut self, pulse: u32, work: &mut [u8], out: &mut [u8]) -> Deck
         ensures { lent result work.new out.new ≡ take_run (lent self work.old out.old) (class_of fixed pulse ∷ []) }
     {
-        if state::is_closed(self) {
+        if self.is_closed() {
             return self;
         }
-        if self.taken == MOST_PULSES {
-            self.refused = state::WRONG_SIZE;
+        if let Some(refused) = self.refusal(1, work.len(), out.len()) {
+            self.refused = refused;
             return self;
         }
-        if !work::has_room(self.n as usize, work.len(), out.len()) {
-            self.refused = state::NO_ROOM;
+        self = self.feed(pulse::class_of(Thresholds::fixed(), Cycles(pulse)));
+        if !self.is_whole() {
             return self;
         }
-        self = step::feed(self, pulse::class_of(Thresholds::fixed(), Cycles(pulse)));
-        if !step::is_whole(self) {
-            return self;
-        }
-        step::settle(self, decode::close(self.frame), work, out)
+        self.settle(self.frame.close(), work, out)
     }
 
     // Takes a run of pulses, which may be empty. It refuses, whole, a run with which they would be too many, and a working buffer or an output
@@ -128,41 +132,30 @@ impl Deck {
     pub fn pulses(mut self, pulses: &[u32], work: &mut [u8], out: &mut [u8]) -> Deck
         ensures { lent result work.new out.new ≡ take_run (lent self work.old out.old) (classes fixed pulses.now) }
     {
-        if state::is_closed(self) {
+        if self.is_closed() {
             return self;
         }
-        if ((MOST_PULSES - self.taken) as usize) < pulses.len() {
-            self.refused = state::WRONG_SIZE;
-            return self;
-        }
-        if !work::has_room(self.n as usize, work.len(), out.len()) {
-            self.refused = state::NO_ROOM;
+        if let Some(refused) = self.refusal(pulses.len(), work.len(), out.len()) {
+            self.refused = refused;
             return self;
         }
         self.refused = 0;
         let mut i: usize = 0;
+        // A while, since a turn takes a whole frame or one pulse.
         while i < pulses.len() {
             if self.phase == ANSWERED {
                 return self;
             }
-            if step::at_frame(self) & (byte::BYTE_PULSES <= pulses.len() - i) {
-                self.taken = self.taken + byte::BYTE_PULSES as u32;
-                self = step::settle(
-                    self,
-                    decode::read_whole(Thresholds::fixed(), pulses, i),
-                    work,
-                    out,
-                );
-                i = i + byte::BYTE_PULSES;
+            if self.at_frame() & (byte::BYTE_PULSES <= pulses.len() - i) {
+                self.taken += byte::BYTE_PULSES as u32;
+                self = self.settle(byte::byte_at(Thresholds::fixed(), pulses, i), work, out);
+                i += byte::BYTE_PULSES;
                 continue;
             }
-            self = step::feed(
-                self,
-                pulse::class_of(Thresholds::fixed(), Cycles(pulses[i])),
-            );
-            i = i + 1;
-            if step::is_whole(self) {
-                self = step::settle(self, decode::close(self.frame), work, out);
+            self = self.feed(pulse::class_of(Thresholds::fixed(), Cycles(pulses[i])));
+            i += 1;
+            if self.is_whole() {
+                self = self.settle(self.frame.close(), work, out);
             }
         }
         self
@@ -172,14 +165,14 @@ impl Deck {
     pub fn end(mut self, work: &mut [u8], out: &mut [u8]) -> Deck
         ensures { lent result work.new out.new ≡ take_end (lent self work.old out.old) }
     {
-        if state::is_closed(self) {
+        if self.is_closed() {
             return self;
         }
-        if !work::has_room(self.n as usize, work.len(), out.len()) {
-            self.refused = state::NO_ROOM;
+        if let Some(refused) = self.refusal(0, work.len(), out.len()) {
+            self.refused = refused;
             return self;
         }
-        step::finish(self)
+        self.finish()
     }
 
     // What the last call said.
@@ -187,5 +180,20 @@ impl Deck {
         ensures { saying_of result ≡ said_by self }
     {
         answers::said(self)
+    }
+
+    // The number with which a call with so many pulses is refused, before an answer.
+    #[tactic(auto, unfolding(crate::specs::private::Ready::refusal_by))]
+    fn refusal(self, count: usize, working: usize, room: usize) -> Option<u8>
+        requires { self.n ≤ 65534 }
+        ensures { result ≡ refusal_by self count working room }
+    {
+        if ((MOST_PULSES - self.taken) as usize) < count {
+            return Some(state::WRONG_SIZE);
+        }
+        if !work::has_room(self.n as usize, working, room) {
+            return Some(state::NO_ROOM);
+        }
+        None
     }
 }

@@ -24,27 +24,11 @@ pub fn seek(matched: u8, class: Class) -> u8
     ensures { result ≡ seek matched class }
 {
     match class {
-        Class::Short => {
-            if (SHORTS >> matched) % 2 == 1 {
-                return matched + 1;
-            }
-            if matched == LONG_AT {
-                return matched;
-            }
-            ((BACKS >> (2 * (matched - LONG_AT))) % 4) as u8
-        }
-        Class::Medium => {
-            if (MEDIUMS >> matched) % 2 == 1 {
-                return matched + 1;
-            }
-            0
-        }
-        Class::Long => {
-            if matched == LONG_AT {
-                return matched + 1;
-            }
-            0
-        }
-        Class::Noise => 0,
+        Class::Short if (SHORTS >> matched) % 2 == 1 => matched + 1,
+        Class::Short if matched == LONG_AT => matched,
+        Class::Short => ((BACKS >> (2 * (matched - LONG_AT))) % 4) as u8,
+        Class::Medium if (MEDIUMS >> matched) % 2 == 1 => matched + 1,
+        Class::Long if matched == LONG_AT => matched + 1,
+        _ => 0,
     }
 }

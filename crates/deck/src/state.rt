@@ -1,7 +1,7 @@
-// The state in each phase, and which states are sound.
+// What a deck is doing, its numbers in each phase, and which states are sound.
 ghost use Rattle.std.specs.Prelude.{◌≡◌};
-ghost use Rattle.deck.specs.Step.{Seeking, InOne, Between, InTwo, Told};
-ghost use Rattle.deck.specs.Calls.{deck_of, is_sound, is_closed, not_begun};
+ghost use Rattle.deck.specs.Calls.{deck_of, phase_of, is_sound, is_closed, not_begun};
+ghost use Rattle.deck.specs.private.Ready.{doing};
 
 use super::{ANSWERED, BETWEEN, Checks, Deck, Frame, IN_ONE, IN_TWO, SEEKING, search};
 
@@ -9,6 +9,19 @@ use super::{ANSWERED, BETWEEN, Checks, Deck, Frame, IN_ONE, IN_TWO, SEEKING, sea
 pub const WRONG_SIZE: u8 = 1;
 
 pub const NO_ROOM: u8 = 2;
+
+// The numbers of an answer.
+pub const ACCEPTED: u8 = 0;
+
+pub const NO_START: u8 = 3;
+
+pub const CUT_SHORT: u8 = 4;
+
+pub const WRONG_COUNTDOWN: u8 = 5;
+
+pub const LOST_BYTE: u8 = 6;
+
+pub const WRONG_CHECKSUM: u8 = 7;
 
 // What the countdown and the checksum add to the byte places of a copy.
 pub const EXTRA: u32 = start::EXTRA_BYTES as u32;
@@ -34,146 +47,187 @@ pub const NO_CHECKS: Checks = Checks {
     two: 0,
 };
 
-// A deck that did not begin.
-pub fn not_begun(refused: u8) -> Deck
-    ensures { result ≡ not_begun refused }
-{
-    Deck {
-        n: 0,
-        taken: 0,
-        start: 0,
-        place: 0,
-        phase: SEEKING,
-        heard: 0,
-        answer: 0,
-        refused,
-        frame: NO_FRAME,
-        checks: NO_CHECKS,
+// What a deck is doing, with the numbers that it has then. A Deck itself has numbers alone, for C, and those that its phase lacks are 0.
+#[derive(Clone, Copy)]
+pub enum Phase {
+    Seeking {
+        matched: u8,
+    },
+    InOne {
+        start: u32,
+        place: u32,
+        heard: u8,
+        frame: Frame,
+    },
+    Between {
+        start: u32,
+        heard: u8,
+    },
+    InTwo {
+        start: u32,
+        place: u32,
+        heard: u8,
+        frame: Frame,
+        checks: Checks,
+    },
+    Told {
+        start: u32,
+        answer: u8,
+        checks: Checks,
+    },
+}
+
+impl Phase {
+    // A deck in this phase.
+    pub fn deck(self, n: u32, taken: u32) -> Deck
+        ensures { result ≡ deck_of n taken (doing self) }
+    {
+        let blank = Deck {
+            n,
+            taken,
+            start: 0,
+            place: 0,
+            phase: SEEKING,
+            heard: 0,
+            answer: 0,
+            refused: 0,
+            frame: NO_FRAME,
+            checks: NO_CHECKS,
+        };
+        match self {
+            Phase::Seeking { matched } => Deck {
+                heard: matched,
+                ..blank
+            },
+            Phase::InOne {
+                start,
+                place,
+                heard,
+                frame,
+            } => Deck {
+                phase: IN_ONE,
+                start,
+                place,
+                heard,
+                frame,
+                ..blank
+            },
+            Phase::Between { start, heard } => Deck {
+                phase: BETWEEN,
+                start,
+                heard,
+                ..blank
+            },
+            Phase::InTwo {
+                start,
+                place,
+                heard,
+                frame,
+                checks,
+            } => Deck {
+                phase: IN_TWO,
+                start,
+                place,
+                heard,
+                frame,
+                checks,
+                ..blank
+            },
+            Phase::Told {
+                start,
+                answer,
+                checks,
+            } => Deck {
+                phase: ANSWERED,
+                start,
+                answer,
+                checks,
+                ..blank
+            },
+        }
     }
 }
 
-pub fn seeking(n: u32, taken: u32, matched: u8) -> Deck
-    ensures { result ≡ deck_of n taken (Seeking matched) }
-{
-    Deck {
-        n,
-        taken,
-        start: 0,
-        place: 0,
-        phase: SEEKING,
-        heard: matched,
-        answer: 0,
-        refused: 0,
-        frame: NO_FRAME,
-        checks: NO_CHECKS,
+impl Deck {
+    // A deck that did not begin.
+    pub(super) fn not_begun(refused: u8) -> Deck
+        ensures { result ≡ not_begun refused }
+    {
+        Deck {
+            refused,
+            ..Phase::Seeking { matched: 0 }.deck(0, 0)
+        }
     }
-}
 
-pub fn in_one(n: u32, taken: u32, start: u32, place: u32, heard: u8, frame: Frame) -> Deck
-    ensures { result ≡ deck_of n taken (InOne start place heard frame) }
-{
-    Deck {
-        n,
-        taken,
-        start,
-        place,
-        phase: IN_ONE,
-        heard,
-        answer: 0,
-        refused: 0,
-        frame,
-        checks: NO_CHECKS,
+    #[tactic(auto, unfolding(crate::specs::Calls::phase_of))]
+    pub(super) fn phase(self) -> Phase
+        ensures { doing result ≡ phase_of self }
+    {
+        let start = self.start;
+        let place = self.place;
+        let heard = self.heard;
+        let frame = self.frame;
+        let checks = self.checks;
+        match self.phase {
+            SEEKING => Phase::Seeking { matched: heard },
+            IN_ONE => Phase::InOne {
+                start,
+                place,
+                heard,
+                frame,
+            },
+            BETWEEN => Phase::Between { start, heard },
+            IN_TWO => Phase::InTwo {
+                start,
+                place,
+                heard,
+                frame,
+                checks,
+            },
+            _ => Phase::Told {
+                start,
+                answer: self.answer,
+                checks,
+            },
+        }
     }
-}
 
-pub fn between(n: u32, taken: u32, start: u32, heard: u8) -> Deck
-    ensures { result ≡ deck_of n taken (Between start heard) }
-{
-    Deck {
-        n,
-        taken,
-        start,
-        place: 0,
-        phase: BETWEEN,
-        heard,
-        answer: 0,
-        refused: 0,
-        frame: NO_FRAME,
-        checks: NO_CHECKS,
+    // Whether no call changes the deck: it has answered, or it is none that a beginning and pulses can give.
+    #[tactic(auto, unfolding(crate::specs::Calls::is_closed))]
+    pub(super) fn is_closed(self) -> bool
+        ensures { result ≡ is_closed self }
+    {
+        !self.is_sound() | (self.phase == ANSWERED)
     }
-}
 
-pub fn in_two(
-    n: u32,
-    taken: u32,
-    start: u32,
-    place: u32,
-    heard: u8,
-    frame: Frame,
-    checks: Checks,
-) -> Deck
-    ensures { result ≡ deck_of n taken (InTwo start place heard frame checks) }
-{
-    Deck {
-        n,
-        taken,
-        start,
-        place,
-        phase: IN_TWO,
-        heard,
-        answer: 0,
-        refused: 0,
-        frame,
-        checks,
+    pub(super) fn is_sound(self) -> bool
+        ensures { result ≡ is_sound self }
+    {
+        let n = self.n;
+        let refused = self.refused;
+        if (n == 0) | (MOST_BYTES < n) | (NO_ROOM < refused) | (ANSWERED < self.phase) {
+            return false;
+        }
+        match self.phase() {
+            Phase::Seeking { matched } => (matched < search::LEAD_PULSES)
+                & (matched as u32 <= self.taken),
+            Phase::InOne {
+                place,
+                heard,
+                frame,
+                ..
+            }
+            | Phase::InTwo {
+                place,
+                heard,
+                frame,
+                ..
+            } => { (place < n + EXTRA) & (heard < FRAME) & (frame.wrong <= byte::EVEN_ONES) }
+            Phase::Between { heard, .. } => heard < GAP,
+            Phase::Told { answer, .. } => {
+                (refused == 0)
+                    & ((answer == ACCEPTED) | ((NO_START <= answer) & (answer <= WRONG_CHECKSUM)))
+            }
+        }
     }
-}
-
-pub fn told(n: u32, taken: u32, start: u32, answer: u8, checks: Checks) -> Deck
-    ensures { result ≡ deck_of n taken (Told start answer checks) }
-{
-    Deck {
-        n,
-        taken,
-        start,
-        place: 0,
-        phase: ANSWERED,
-        heard: 0,
-        answer,
-        refused: 0,
-        frame: NO_FRAME,
-        checks,
-    }
-}
-
-// Whether no call changes the deck: it has answered, or it is none that a beginning and pulses can give.
-pub fn is_closed(deck: Deck) -> bool
-    ensures { result ≡ is_closed deck }
-{
-    !is_sound(deck) | (deck.phase == ANSWERED)
-}
-
-pub fn is_sound(deck: Deck) -> bool
-    ensures { result ≡ is_sound deck }
-{
-    let n = deck.n;
-    let phase = deck.phase;
-    let heard = deck.heard;
-    let refused = deck.refused;
-    if (n == 0) | (MOST_BYTES < n) | (NO_ROOM < refused) {
-        return false;
-    }
-    if phase == SEEKING {
-        return (heard < search::LEAD_PULSES) & (heard as u32 <= deck.taken);
-    }
-    if phase == BETWEEN {
-        return heard < GAP;
-    }
-    if phase == ANSWERED {
-        let answer = deck.answer;
-        return (refused == 0) & ((answer == 0) | ((3 <= answer) & (answer <= 7)));
-    }
-    (phase < ANSWERED)
-        & (deck.place < n + EXTRA)
-        & (heard < FRAME)
-        & (deck.frame.wrong <= byte::EVEN_ONES)
 }

@@ -14,6 +14,7 @@ pub fn has_room(n: usize, working: usize, room: usize) -> bool
 }
 
 // Puts a byte at its place: its value and 0, or 0 and its cause plus 1.
+#[tactic(auto, unfolding(crate::specs::Work::put_byte))]
 pub fn put(work: &mut [u8], place: usize, read: ByteRead)
     requires { (2 * place + 1 < length work.old) × (cause_byte read < 256) }
     ensures { work.new ≡ put_byte work.old place read }
@@ -47,9 +48,7 @@ pub fn fill(out: &mut [u8], work: &[u8], n: usize)
     requires { (n ≤ 65534) × (2 * (n + 10) ≤ length work.now) × (n ≤ length out.old) }
     ensures { out.new ≡ put_at out.old 0 (payload_in n work.now) }
 {
-    let mut i: usize = 0;
-    while i < n {
+    for i in 0..n {
         out[i] = work[2 * (start::COUNTDOWN_BYTES + i)];
-        i = i + 1;
     }
 }

@@ -1,6 +1,8 @@
 -- Demand 3: whatever the tape does within the damage of a file, the reader returns what was written; and no strip lies within the damage
 -- of two files that differ. It is stated over the promises of the writer and the reader themselves.
 use Prim.Native.Nat.{ℕ, ◌+◌, ◌-◌, ◌≤◌}
+use Rattle.refusal.specs.declared.Refusal.{Refusal}
+use Rattle.std.specs.Prelude.{Result, Err, Ok}
 use native.Mathlib.Omega.{arith}
 use mathlib.Core.Path.{◌≡◌, refl, sym, ap, ◌∙◌}
 use mathlib.Core.List.{List}
@@ -11,7 +13,7 @@ use Rattle.lists.specs.Places.{part}
 use Rattle.lists.specs.Buffer.{put_at}
 use Rattle.lists.proofs.PartLaws.{part-part}
 use Rattle.lists.proofs.BufferLaws.{part-put, rest-front}
-use Rattle.refusal.specs.Outcome.{accepted, mapped, puts}
+use Rattle.refusal.specs.Outcome.{accepted, mapped, puts, outcome_of}
 use Rattle.refusal.proofs.OutcomeLaws.{accepted-once, mapped-accepted}
 use Rattle.pulse.specs.declared.Thresholds.{Thresholds}
 use Rattle.pulse.specs.Pulse.{fixed, classes}
@@ -21,10 +23,8 @@ use Rattle.block.proofs.BlockLaws.{length-block_pulses}
 use Rattle.block.proofs.DamageLaws.{undamaged}
 use Rattle.header.proofs.HeaderLaws.{length-header, fields-header, header-name}
 use Rattle.file.specs.declared.Loaded.{Loaded}
-use Rattle.file.specs.declared.FileAnswer.{FileAnswer}
-use Rattle.file.specs.declared.FileAnswer.TheVariants.{Accepted, Refused}
 use Rattle.file.specs.File.{File, file_header, header_pulses, data_pulses, file_pulses, data_bytes, write_file}
-use Rattle.file.specs.Reading.{FileRead, loaded_of, header_of, bytes_of, read_file, file_answer, FilePromise}
+use Rattle.file.specs.Reading.{FileRead, loaded_of, header_of, bytes_of, read_file, FilePromise}
 use Rattle.file.specs.Damage.{FileDamaged}
 use Rattle.file.specs.Claim.{Sent, Enough, FileReturned, SameFile, Demand3}
 use Rattle.file.proofs.FileLaws.{Taken, write_file-taken, write_file-accepted, length-file_pulses, read_file_by-damaged}
@@ -34,9 +34,9 @@ use Rattle.file.proofs.ReaderLaws.{rules-damaged}
 abbrev pub as_written : File → (strip : List ℕ) → FileRead
 as_written f strip = record { loaded = record { fields = f.fields; stop = length strip - 61 }; header = file_header f; bytes = f.bytes }
 
-answered-is : (a : FileAnswer) (l : Loaded) → file_answer a ≡ accepted l → a ≡ Accepted l
-answered-is (Accepted m) l e = cc
-answered-is (Refused r) l e = absurd (let z : ◌≡◌ {A = ℕ} 0 1 = cc in omega arith)
+answered-is : (a : Result Loaded Refusal) (l : Loaded) → outcome_of a ≡ accepted l → a ≡ Ok l
+answered-is (Ok m) l e = cc
+answered-is (Err r) l e = absurd (let z : ◌≡◌ {A = ℕ} 0 1 = cc in omega arith)
 
 -- ---- The writer accepted the file
 
@@ -65,7 +65,7 @@ module _ {f : File} {out out' : List ℕ} {count : ℕ} (sent : Sent f out count
         r ∙ rw (fields-header f.fields f.name sent.typed.start sent.typed.end, stop)
 
     -- what the reader promises from place 0 on is to return the file
-    returned : (h b : List ℕ) (r : FileAnswer) (h' b' : List ℕ) → Enough f h b → FilePromise (read_file (classes t strip) (length h) (length b) 0) h b r h' b'
+    returned : (h b : List ℕ) (r : Result Loaded Refusal) (h' b' : List ℕ) → Enough f h b → FilePromise (read_file (classes t strip) (length h) (length b) 0) h b r h' b'
         → FileReturned f strip h b r h' b'
     returned h b r h' b' enough promised =
         let e = read_file-damaged (length h) (length b) enough.header enough.bytes in

@@ -8,13 +8,15 @@ use mathlib.Core.List.{List}
 use borrow.Author.Tests.{ltb-true, ne_eqb, le-ltb, lt-leb, ltb-false, leb-false, not-false, eq-eqb, eqb-true}
 use lib.Dec.{eqb, leb, ltb}
 use lib.ListN.{length, get_or, length-append}
+use Rattle.std.specs.Prelude.{Result, Ok, Err}
+use Rattle.std.specs.Result.{MatchResult, IsErrAnd}
 use Rattle.lists.specs.Places.{part}
 use Rattle.lists.proofs.BoolLaws.{or-false, or-true}
 use Rattle.lists.proofs.PartLaws.{part-part}
 use Rattle.refusal.specs.declared.Reason.TheVariants.{WrongSize, WrongType, WrongAddresses, WrongLeader}
 use Rattle.refusal.specs.declared.Refusal.{Refusal}
 use Rattle.refusal.specs.Refusal.{refusal_at, in_block}
-use Rattle.refusal.specs.Outcome.{accepted, refused_with, mapped, of_block}
+use Rattle.refusal.specs.Outcome.{accepted, outcome_of, mapped, of_block}
 use Rattle.refusal.proofs.OutcomeLaws.{cond-accepted, and_then-accepted, of_block-accepted, mapped-accepted, if_room-accepted, if_room-room}
 use Rattle.pulse.specs.declared.Thresholds.{Thresholds}
 use Rattle.pulse.specs.declared.Class.TheVariants.{Short}
@@ -33,6 +35,15 @@ use Rattle.file.specs.Reading.{BlockReader, FileRead, file_read, read_data, read
 use Rattle.file.specs.Damage.{FileDamaged}
 use Rattle.file.specs.Claim.{Typed}
 use Rattle.file.proofs.ReaderLaws.{PayloadLength, ReadsDamaged}
+
+-- ---- The number of the data block
+
+-- the same answer, where a refusal names block 1: as `map_err` leaves it, whose closure is told by P
+pub data-block : {T : Type 0} (a b : Result T Refusal) {P : Refusal → Refusal → Type 0} → MatchResult a (λ x. b ≡ Ok x) (λ r. IsErrAnd b (P r))
+    → ((r s : Refusal) → P r s → s ≡ in_block 1 r) → outcome_of b ≡ of_block 1 (outcome_of a)
+data-block (Ok x) b e told = rw e
+data-block (Err r) (Ok x) e told = absurd e
+data-block (Err r) (Err s) e told = rw (told r s e)
 
 -- ---- The tests in words
 
@@ -67,15 +78,6 @@ not_program-wrong_type kind e = elim (or-true (ltb kind 1) (ltb 5 kind) e) [
 -- ---- measure_data
 
 module _ (f : Fields) where
-  pub measure_data-wrong_type : {r : Refusal} → not_program f.kind ≡ true → r ≡ refusal_at WrongType 0 → refused_with r ≡ measure_data f
-  unfolding measure_data
-  measure_data-wrong_type kind q = rw (kind, q)
-
-  pub measure_data-wrong_addresses : {r : Refusal} → not_program f.kind ≡ false → wrong_addresses f ≡ true → r ≡ refusal_at WrongAddresses 0
-      → refused_with r ≡ measure_data f
-  unfolding measure_data
-  measure_data-wrong_addresses kind order q = rw (kind, order, q)
-
   pub measure_data-right : not_program f.kind ≡ false → wrong_addresses f ≡ false → measure_data f ≡ accepted (data_bytes f)
   unfolding measure_data
   measure_data-right kind order = rw (kind, order)

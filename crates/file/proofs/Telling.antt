@@ -5,7 +5,7 @@ use mathlib.Core.Path.{◌≡◌, refl}
 use mathlib.Core.Logic.{◌⊎◌, inl, inr}
 use mathlib.Core.Bool.{Bool, true, false, cond}
 use mathlib.Core.List.{List}
-use mathlib.Core.Option.{none}
+use Rattle.std.specs.Prelude.{None}
 use lib.Dec.{ltb}
 use Rattle.refusal.specs.declared.Reason.{Reason}
 use Rattle.refusal.specs.declared.Reason.TheVariants.{NoRoom, WrongType, WrongAddresses}
@@ -26,11 +26,11 @@ record Told (cs : List Class) (from : ℕ) (why : Why) : Type 0 where
   blocks : why.number ≡ 6 → (why.block ≡ 0) ⊎ (why.block ≡ 1)
   first : why.number ≡ 6 → why.block ≡ 0 → LostTold cs from 192 why
   second : why.number ≡ 6 → why.block ≡ 1 → DataLost cs from why
-  others : (why.number ≡ 6 → ⊥) → why.causes ≡ none
+  others : (why.number ≡ 6 → ⊥) → why.causes ≡ None
 
 module _ (cs : List Class) (from : ℕ) (why : Why) where
   -- any other reason than a lost byte
-  plain : {A : Type 0} (reason : Reason) (place : ℕ) → (number_of reason ≡ 6 → ⊥) → causes_of reason ≡ none
+  plain : {A : Type 0} (reason : Reason) (place : ℕ) → (number_of reason ≡ 6 → ⊥) → causes_of reason ≡ None
       → ◌≡◌ {A = Outcome A} (refuse reason place) (refused why) → Told cs from why
   plain reason place six causes e =
       let p = refuse-plain why reason place six causes e in

@@ -1,6 +1,6 @@
 -- What holds of the causes that the file reader tells (document 02, Q-6).
 use Rattle.std.specs.Prelude.{ℕ, ◌≡◌, ◌⊎◌, List}
-use Rattle.std.proofs.Math.Option.{none}
+use Rattle.std.specs.Prelude.{None}
 use Rattle.refusal.specs.Refusal.{Why}
 use Rattle.refusal.specs.Outcome.{refused, accepted}
 use Rattle.pulse.specs.declared.Class.{Class}
@@ -22,4 +22,4 @@ pub record FileCauses : Type 0 where
   pub first : (cs : List Class) (h b from : ℕ) (why : Why) → read_file cs h b from ≡ refused why → why.number ≡ 6 → why.block ≡ 0 → LostTold cs from 192 why
   pub second : (cs : List Class) (h b from : ℕ) (why : Why) → read_file cs h b from ≡ refused why → why.number ≡ 6 → why.block ≡ 1 → DataLost cs from why
   -- No other refusal of it has causes.
-  pub others : (cs : List Class) (h b from : ℕ) (why : Why) → read_file cs h b from ≡ refused why → (why.number ≡ 6 → ⊥) → why.causes ≡ none
+  pub others : (cs : List Class) (h b from : ℕ) (why : Why) → read_file cs h b from ≡ refused why → (why.number ≡ 6 → ⊥) → why.causes ≡ None

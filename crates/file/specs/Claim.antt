@@ -1,15 +1,14 @@
 -- Two claims: demand 3, from what the writer is lent to what the reader returns (document 01, 'Damage'); and that noise is never written
 -- ('Pulses').
-use Rattle.std.specs.Prelude.{ℕ, ◌-◌, ◌<◌, ◌≤◌, ◌≡◌, List, length, drop}
+use Rattle.std.specs.Prelude.{ℕ, ◌-◌, ◌<◌, ◌≤◌, ◌≡◌, List, length, drop, Result, Ok}
+use Rattle.file.specs.declared.Loaded.{Loaded}
+use Rattle.refusal.specs.declared.Refusal.{Refusal}
 use Rattle.lists.specs.Places.{part, Below}
-use Rattle.refusal.specs.declared.Put.TheVariants.{Count}
 use Rattle.refusal.specs.Promise.{Written}
 use Rattle.pulse.specs.Pulse.{fixed, classes, NoNoise, Figures}
 use Rattle.byte.specs.Byte.{bytes_classes}
 use Rattle.block.specs.Block.{block_classes}
 use Rattle.header.specs.Header.{filled}
-use Rattle.file.specs.declared.FileAnswer.{FileAnswer}
-use Rattle.file.specs.declared.FileAnswer.TheVariants.{Accepted}
 use Rattle.file.specs.File.{File, file_header, file_pulses, data_bytes, write_file}
 use Rattle.file.specs.Reading.{read_file, FilePromise}
 use Rattle.file.specs.Damage.{FileDamaged}
@@ -25,7 +24,7 @@ pub record Typed (f : File) : Type 0 where
 -- The writer was lent this file and the buffer out; it accepted, answered a count of pulses and left out'. `promised` is its contract.
 pub record Sent (f : File) (out : List ℕ) (count : ℕ) (out' : List ℕ) : Type 0 where
   pub typed : Typed f
-  pub promised : Written (write_file (length out) f) out (Count count) out'
+  pub promised : Written (write_file (length out) f) out (Ok count) out'
 
 -- Enough room is 192 bytes or more for the header and end minus start or more for the data: h and b are the buffers lent for them.
 pub record Enough (f : File) (h b : List ℕ) : Type 0 where
@@ -33,9 +32,9 @@ pub record Enough (f : File) (h b : List ℕ) : Type 0 where
   pub bytes : data_bytes f.fields ≤ length b
 
 -- What the reader returns, r with h' and b' in the buffers that held h and b, is the file that was written.
-pub record FileReturned (f : File) (strip h b : List ℕ) (r : FileAnswer) (h' b' : List ℕ) : Type 0 where
+pub record FileReturned (f : File) (strip h b : List ℕ) (r : Result Loaded Refusal) (h' b' : List ℕ) : Type 0 where
   -- the type and both addresses are those lent to the writer; the end is 61 less than the strip's length
-  pub answer : r ≡ Accepted (record { fields = f.fields; stop = length strip - 61 })
+  pub answer : r ≡ Ok (record { fields = f.fields; stop = length strip - 61 })
   -- the header buffer begins with the header; its bytes 5 to 191 are the name lent, filled with $20
   pub header : part h' 0 192 ≡ file_header f
   pub name : part h' 5 187 ≡ filled f.name
@@ -62,7 +61,7 @@ pub record Demand3 : Type 0 where
   pub returned : (f : File) (out : List ℕ) (count : ℕ) (out' : List ℕ) → Sent f out count out'
       → (strip : List ℕ) → FileDamaged fixed f count strip
       → (h b : List ℕ) → Enough f h b
-      → (r : FileAnswer) (h' b' : List ℕ) → FilePromise (read_file (classes fixed strip) (length h) (length b) 0) h b r h' b'
+      → (r : Result Loaded Refusal) (h' b' : List ℕ) → FilePromise (read_file (classes fixed strip) (length h) (length b) 0) h b r h' b'
       → FileReturned f strip h b r h' b'
   -- No strip lies within the damage of two files that differ.
   pub apart : (f g : File) (out other : List ℕ) (count count' : ℕ) (out' other' : List ℕ) → Sent f out count out' → Sent g other count' other'

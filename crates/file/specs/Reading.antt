@@ -1,13 +1,12 @@
 -- Reading a program file (document 01, 'Headers and program files').
-use Rattle.std.specs.Prelude.{ℕ, List}
-use Rattle.refusal.specs.Outcome.{Outcome, accepted, refused_with, if_room, mapped, of_block, and_then}
+use Rattle.std.specs.Prelude.{ℕ, List, Result}
+use Rattle.refusal.specs.declared.Refusal.{Refusal}
+use Rattle.refusal.specs.Outcome.{Outcome, outcome_of, if_room, mapped, of_block, and_then}
 use Rattle.refusal.specs.Promise.{Answers, Fills, itself}
 use Rattle.pulse.specs.declared.Class.{Class}
 use Rattle.block.specs.Reading.{BlockRead, read_from}
 use Rattle.header.specs.Header.{fields_of}
 use Rattle.file.specs.declared.Loaded.{Loaded}
-use Rattle.file.specs.declared.FileAnswer.{FileAnswer}
-use Rattle.file.specs.declared.FileAnswer.TheVariants.{Accepted, Refused}
 use Rattle.file.specs.File.{measure_data}
 
 -- what an accepted file gives: type, addresses and the end of the data block, which are answered; header and data, which are put
@@ -53,11 +52,6 @@ read_file_by read header_room data_room from = and_then (read from 192) (λ h. r
 abbrev pub read_file : (cs : List Class) (header_room data_room from : ℕ) → Outcome FileRead
 read_file cs = read_file_by (read_from cs)
 
--- what the reader answers
-abbrev pub file_answer : FileAnswer → Outcome Loaded
-file_answer (Accepted loaded) = accepted loaded
-file_answer (Refused r) = refused_with r
-
 -- what a reader promises: it answers r and leaves h' and b' in the buffers that held h and b, as the outcome says
-abbrev pub FilePromise : (o : Outcome FileRead) (h b : List ℕ) (r : FileAnswer) (h' b' : List ℕ) → Type 0
-FilePromise o h b r h' b' = Answers itself loaded_of o (file_answer r) × (Fills header_of o h h' × Fills bytes_of o b b')
+abbrev pub FilePromise : (o : Outcome FileRead) (h b : List ℕ) (r : Result Loaded Refusal) (h' b' : List ℕ) → Type 0
+FilePromise o h b r h' b' = Answers itself loaded_of o (outcome_of r) × (Fills header_of o h h' × Fills bytes_of o b b')

@@ -4,24 +4,23 @@
 #![tactic(auto)]
 
 ghost use Rattle.std.specs.Prelude.{◌≡◌, false, length};
-ghost use Rattle.refusal.specs.Promise.{put_answer, Written};
+ghost use Rattle.refusal.specs.Outcome.{outcome_of};
+ghost use Rattle.refusal.specs.Promise.{Written};
 ghost use Rattle.pulse.specs.Pulse.{fixed, classes};
 ghost use Rattle.block.specs.Block.{wrong_size};
 ghost use Rattle.block.specs.Reading.{read_from};
-ghost use Rattle.header.specs.Header.{fields_of};
-ghost use Rattle.file.specs.File.{file, not_program, measure_data, write_blocks, write_program, write_file};
+ghost use Rattle.file.specs.File.{file, not_program, measure_data, write_blocks, write_file};
 ghost use Rattle.file.specs.Reading.{read_data, read_file, FilePromise};
 
-use block::BlockAnswer;
-use header::{Fields, HeaderAnswer};
-use refusal::{Put, Reason, Refusal};
+use header::Fields;
+use refusal::{Reason, Refusal};
 
-// The types that a program file has: a program, and one that is bound to its start address.
+// The types that a program file has: a program, and one that is bound to its start address. A type is a number, since every call takes any.
 const PROGRAM: u8 = 1;
 
 const FIXED_PROGRAM: u8 = 3;
 
-// The number of the data block in a refusal.
+// The number of the data block in a refusal, as C gets it.
 const DATA_BLOCK: u32 = 1;
 
 // What an accepted file answers: type and addresses, and the end of the data block.
@@ -29,13 +28,6 @@ const DATA_BLOCK: u32 = 1;
 pub struct Loaded {
     pub fields: Fields,
     pub stop: usize,
-}
-
-// What the file reader answers.
-#[derive(Clone, Copy)]
-pub enum FileAnswer {
-    Accepted(Loaded),
-    Refused(Refusal),
 }
 
 // Writes a program file with these leaders before its header and its data, and answers the number of pulses put. It refuses a name
@@ -48,147 +40,103 @@ pub fn write_file(
     leader0: usize,
     leader1: usize,
     out: &mut [u32],
-) -> Put
+) -> Result<usize, Refusal>
     ensures { Written (write_file (length out.old) (file fields name.now bytes.now leader0 leader1)) out.old result out.new }
 {
     let mut header = [0u8; header::HEADER_BYTES];
-    match header::pack_header(fields, name, &mut header) {
-        Put::Refused(r) => Put::Refused(r),
-        Put::Count(_) => write_program(fields, header, bytes, leader0, leader1, out),
+    header::pack_header(fields, name, &mut header)?;
+    let n = measure_data(fields)?;
+    if n != bytes.len() {
+        return Err(Reason::WrongAddresses.into());
     }
+    write_blocks(header, bytes, leader0, leader1, out)
 }
 
 // Reads the program file whose header is the first block at or after `from`: puts its header and its data, and answers type, addresses
 // and the end of the data block. It refuses a header or a data block as `read_block` does, a type that is not 1 or 3, an end that is not
 // above the start or too far above it, and an output that is too short.
-pub fn read_file(strip: &[u32], from: usize, header: &mut [u8], bytes: &mut [u8]) -> FileAnswer
+pub fn read_file(
+    strip: &[u32],
+    from: usize,
+    header: &mut [u8],
+    bytes: &mut [u8],
+) -> Result<Loaded, Refusal>
     ensures { FilePromise (read_file (classes fixed strip.now) (length header.old) (length bytes.old) from) header.old bytes.old result header.new bytes.new }
 {
     let mut h = [0u8; header::HEADER_BYTES];
-    match block::read_block(strip, from, header::HEADER_BYTES, &mut h) {
-        BlockAnswer::Refused(r) => FileAnswer::Refused(r),
-        BlockAnswer::Accepted(e) => read_data(strip, e.end, h, header, bytes),
-    }
+    let read = block::read_block(strip, from, header::HEADER_BYTES, &mut h)?;
+    read_data(strip, read.end, h, header, bytes)
 }
 
 // How many bytes the data block of a program file has. It refuses a type that is not 1 or 3, and an end that is not above the start or too
 // far above it.
-pub fn measure_data(fields: Fields) -> Put
-    ensures { put_answer result ≡ measure_data fields }
+#[tactic(auto, unfolding(crate::specs::File::measure_data))]
+pub fn measure_data(fields: Fields) -> Result<usize, Refusal>
+    ensures { outcome_of result ≡ measure_data fields }
 {
     if not_program(fields.kind) {
-        return Put::Refused(refusal::at(Reason::WrongType, 0));
+        return Err(Reason::WrongType.into());
     }
     let start = fields.start as usize;
     let end = fields.end as usize;
     if (end <= start) | (start + block::MOST_BYTES < end) {
-        return Put::Refused(refusal::at(Reason::WrongAddresses, 0));
+        return Err(Reason::WrongAddresses.into());
     }
-    Put::Count(end - start)
+    Ok(end - start)
 }
 
 // ---- Writing
 
-// Writes a program whose header is packed.
-fn write_program(
-    fields: Fields,
-    header: [u8; header::HEADER_BYTES],
-    bytes: &[u8],
-    leader0: usize,
-    leader1: usize,
-    out: &mut [u32],
-) -> Put
-    ensures { Written (write_program (length out.old) fields leader0 header leader1 bytes.now) out.old result out.new }
-{
-    match measure_data(fields) {
-        Put::Refused(r) => Put::Refused(r),
-        Put::Count(n) => {
-            if n != bytes.len() {
-                return Put::Refused(refusal::at(Reason::WrongAddresses, 0));
-            }
-            write_blocks(header, bytes, leader0, leader1, out)
-        }
-    }
-}
-
-// Writes the two blocks.
+// Writes the two blocks. The leaders stay apart, as C lends them: a struct for this one call would be no plainer.
 fn write_blocks(
     header: [u8; header::HEADER_BYTES],
     bytes: &[u8],
     leader0: usize,
     leader1: usize,
     out: &mut [u32],
-) -> Put
+) -> Result<usize, Refusal>
     requires { wrong_size (length bytes.now) ≡ false }
     ensures { Written (write_blocks (length out.old) leader0 header leader1 bytes.now) out.old result out.new }
 {
-    let Put::Count(first) = block::measure_block(header::HEADER_BYTES, leader0) else {
-        return Put::Refused(refusal::at(Reason::WrongLeader, 0));
-    };
-    let Put::Count(second) = block::measure_block(bytes.len(), leader1) else {
-        return Put::Refused(refusal::in_block(refusal::at(Reason::WrongLeader, 0), DATA_BLOCK));
-    };
+    let first = block::measure_block(header::HEADER_BYTES, leader0)?;
+    let second = block::measure_block(bytes.len(), leader1).map_err(|r| r.in_block(DATA_BLOCK))?;
     let count = first + second;
     if out.len() < count {
-        return Put::Refused(refusal::at(Reason::NoRoom, 0));
+        return Err(Reason::NoRoom.into());
     }
-    block::write_block(&header, leader0, out);
-    block::write_block(bytes, leader1, &mut out[first..]);
-    Put::Count(count)
+    // Both are measured and there is room for both, so neither is refused.
+    let _ = block::write_block(&header, leader0, out);
+    let _ = block::write_block(bytes, leader1, &mut out[first..]);
+    Ok(count)
 }
 
 fn not_program(kind: u8) -> bool
     ensures { result ≡ not_program kind }
 {
-    !((kind == PROGRAM) | (kind == FIXED_PROGRAM))
+    !matches!(kind, PROGRAM | FIXED_PROGRAM)
 }
 
 // ---- Reading
 
-// Reads the data block of a header that was read, from the header's end on.
+// Reads the data block of a header that was read, from the header's end on. Nothing is put before both blocks are accepted.
 fn read_data(
     strip: &[u32],
     from: usize,
     h: [u8; header::HEADER_BYTES],
     header: &mut [u8],
     bytes: &mut [u8],
-) -> FileAnswer
+) -> Result<Loaded, Refusal>
     ensures { FilePromise (read_data (read_from (classes fixed strip.now)) (length header.old) (length bytes.old) from h) header.old bytes.old result header.new bytes.new }
 {
-    match header::unpack_header(&h) {
-        HeaderAnswer::Refused(r) => FileAnswer::Refused(r),
-        HeaderAnswer::Accepted(fields) => read_program(strip, from, fields, h, header, bytes),
+    let fields = header::unpack_header(&h)?;
+    let n = measure_data(fields)?;
+    if (header.len() < header::HEADER_BYTES) | (bytes.len() < n) {
+        return Err(Reason::NoRoom.into());
     }
-}
-
-// The same with the header's fields. Nothing is put before both blocks are accepted.
-fn read_program(
-    strip: &[u32],
-    from: usize,
-    fields: Fields,
-    h: [u8; header::HEADER_BYTES],
-    header: &mut [u8],
-    bytes: &mut [u8],
-) -> FileAnswer
-    requires { fields ≡ fields_of h }
-    ensures { FilePromise (read_data (read_from (classes fixed strip.now)) (length header.old) (length bytes.old) from h) header.old bytes.old result header.new bytes.new }
-{
-    match measure_data(fields) {
-        Put::Refused(r) => FileAnswer::Refused(r),
-        Put::Count(n) => {
-            if (header.len() < header::HEADER_BYTES) | (bytes.len() < n) {
-                return FileAnswer::Refused(refusal::at(Reason::NoRoom, 0));
-            }
-            match block::read_block(strip, from, n, bytes) {
-                BlockAnswer::Refused(r) => FileAnswer::Refused(refusal::in_block(r, DATA_BLOCK)),
-                BlockAnswer::Accepted(e) => {
-                    header[..header::HEADER_BYTES].copy_from_slice(&h);
-                    FileAnswer::Accepted(Loaded {
-                        fields,
-                        stop: e.end,
-                    })
-                }
-            }
-        }
-    }
+    let data = block::read_block(strip, from, n, bytes).map_err(|r| r.in_block(DATA_BLOCK))?;
+    header[..header::HEADER_BYTES].copy_from_slice(&h);
+    Ok(Loaded {
+        fields,
+        stop: data.end,
+    })
 }

@@ -1,18 +1,18 @@
--- Packing: what the loops keep, and what the call comes to.
+-- Packing: what the stores leave, and what the call comes to.
 use Prim.Native.Nat.{ℕ, ◌+◌, ◌≤◌, ◌<◌}
+use Rattle.std.specs.Prelude.{Err, Ok}
 use native.Mathlib.Omega.{arith}
-use native.Mathlib.Numerals.{add-one}
-use mathlib.Core.Path.{◌≡◌, refl, ap, ◌∙◌}
+use mathlib.Core.Path.{◌≡◌, refl, sym, ap, ◌∙◌}
 use mathlib.Core.Bool.{true, false}
-use mathlib.Core.List.{List}
+use mathlib.Core.List.{List, append_assoc}
+use borrow.Rule.Slice.PartMut.{put_mid}
 use lib.ListN.{length, get_or, set, length-set}
-use lib.Seq.{sets, length-sets}
+use lib.Seq.{sets, length-sets, sets-eq, drop-drop}
 use Rattle.lists.specs.Text.{low_first}
 use Rattle.lists.proofs.BufferLaws.{put-room}
 use Rattle.lists.proofs.LoopLaws.{Putting, put-begun, put_one, put-done, table_left, table-begun, table-next, table-over}
 use Rattle.refusal.specs.declared.Reason.TheVariants.{WrongSize, NoRoom, WrongType}
 use Rattle.refusal.specs.declared.Refusal.{Refusal}
-use Rattle.refusal.specs.declared.Put.TheVariants.{Count, Refused}
 use Rattle.refusal.specs.Refusal.{refusal_at}
 use Rattle.refusal.specs.Promise.{Written}
 use Rattle.refusal.proofs.PromiseLaws.{written-refused, written-accepted}
@@ -22,6 +22,11 @@ use Rattle.header.specs.Header.{filled, header_bytes, wrong_name, wrong_type, pa
 use Rattle.header.proofs.HeaderLaws.{length-header}
 
 -- ---- The name
+
+-- values stored over a part of the output, as `copy_from_slice` and `fill` leave it
+pub part-stored : (out values : List ℕ) (at : ℕ) {k : ℕ} {stored : List ℕ} → length values ≡ k → at + k ≤ length out → stored ≡ values
+    → put_mid at k out stored ≡ sets out at values
+part-stored out values at e h q = rw (q, ← e, drop-drop, ← append_assoc) (sym (sets-eq values out at (omega arith)))
 
 module _ (before name : List ℕ) where
   abbrev pub NamePut : List ℕ → ℕ → Type 0
@@ -40,11 +45,6 @@ module _ (before name : List ℕ) where
 
 -- ---- The whole header: the type, two words, the name
 
-pub word-put : (out : List ℕ) (at n : ℕ) {a b : ℕ} → a ≡ get_or (low_first 4 n) 0 0 → b ≡ get_or (low_first 4 n) 1 0
-    → set (set out at a) (at + 1) b ≡ sets out at (low_first 2 n)
-unfolding low_first
-word-put out at n p q = rw (p, q, add-one)
-
 -- what was stored has the output's length
 pub length-one : (out : List ℕ) (k at : ℕ) (xs : List ℕ) {one : List ℕ} → one ≡ sets (set out 0 k) at xs → length one ≡ length out
 length-one out k at xs e = ap length e ∙ length-sets (set out 0 k) at xs ∙ length-set out 0 k
@@ -60,22 +60,22 @@ header-put out f name e g h = h ∙ rw (g, e)
 -- ---- What packing comes to
 
 module _ (out : List ℕ) (f : Fields) (name : List ℕ) where
-  pub pack_header-wrong_size : {r : Refusal} → wrong_name (length name) ≡ true → r ≡ refusal_at WrongSize 0 → Written (pack_header (length out) f name) out (Refused r) out
+  pub pack_header-wrong_size : {r : Refusal} → wrong_name (length name) ≡ true → r ≡ refusal_at WrongSize 0 → Written (pack_header (length out) f name) out (Err r) out
   unfolding pack_header
   pack_header-wrong_size t = written-refused (pack_header (length out) f name) out (rw t)
 
   module _ (right : wrong_name (length name) ≡ false) where
-    pub pack_header-wrong_type : {r : Refusal} → wrong_type f.kind ≡ true → r ≡ refusal_at WrongType 0 → Written (pack_header (length out) f name) out (Refused r) out
+    pub pack_header-wrong_type : {r : Refusal} → wrong_type f.kind ≡ true → r ≡ refusal_at WrongType 0 → Written (pack_header (length out) f name) out (Err r) out
     unfolding pack_header
     pack_header-wrong_type t = written-refused (pack_header (length out) f name) out (rw (right, t))
 
     module _ (type : wrong_type f.kind ≡ false) where
-      pub pack_header-no_room : {r : Refusal} → length out < 192 → r ≡ refusal_at NoRoom 0 → Written (pack_header (length out) f name) out (Refused r) out
+      pub pack_header-no_room : {r : Refusal} → length out < 192 → r ≡ refusal_at NoRoom 0 → Written (pack_header (length out) f name) out (Err r) out
       unfolding pack_header
       pack_header-no_room h = written-refused (pack_header (length out) f name) out (rw (right, type, if_room-no_room (length out) 192 _ h))
 
       pub pack_header-whole : {out' : List ℕ} → 192 ≤ length out → out' ≡ sets out 0 (header_bytes f name)
-          → Written (pack_header (length out) f name) out (Count 192) out'
+          → Written (pack_header (length out) f name) out (Ok 192) out'
       unfolding pack_header
       pack_header-whole h e =
           let long = length-header f name in

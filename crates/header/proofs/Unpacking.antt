@@ -1,67 +1,57 @@
 -- Unpacking and the shown name: what the loop keeps, and what the calls come to.
-use Prim.Native.Nat.{ℕ, zero, suc, ◌+◌, ◌-◌, ◌<◌}
+use Prim.Native.Nat.{ℕ, zero, suc, ◌+◌, ◌-◌, ◌*◌, ◌≤◌, ◌<◌}
+use Rattle.std.specs.Prelude.{Result, Err, Ok}
 use native.Mathlib.Nat.{add-zero}
+use native.Mathlib.Numerals.{add-one}
 use native.Mathlib.Omega.{arith}
 use mathlib.Core.Path.{◌≡◌, refl, sym, ap, ◌∙◌}
-use mathlib.Core.Bool.{true, false}
 use mathlib.Core.List.{List, []}
 use borrow.Author.Tests.{eq-eqb, ne_eqb}
 use lib.ListN.{length, take, drop, get_or}
-use Rattle.refusal.specs.declared.Reason.TheVariants.{WrongSize, WrongType}
+use lib.Seq.{drop-cons}
+use Rattle.lists.specs.Text.{from_low}
 use Rattle.refusal.specs.declared.Refusal.{Refusal}
-use Rattle.refusal.specs.Refusal.{refusal_at}
-use Rattle.refusal.specs.Outcome.{accepted, refused_with}
+use Rattle.refusal.specs.Outcome.{accepted, refused_with, outcome_of}
 use Rattle.header.specs.declared.Fields.{Fields}
-use Rattle.header.specs.declared.HeaderAnswer.{HeaderAnswer}
-use Rattle.header.specs.declared.HeaderAnswer.TheVariants.{Accepted, Refused}
-use Rattle.header.specs.Header.{fields_of, wrong_type, unpack_header, header_answer, shown_count, shown_span, shown_name, shown_place, pointer_at}
+use Rattle.header.specs.Header.{word_at, unpack_header, shown_count, shown_span, shown_name, shown_place, pointer_at}
 use Rattle.header.proofs.HeaderLaws.{unpack_header-long}
 
--- ---- What unpacking comes to
+-- ---- Addresses
 
-module _ (h : List ℕ) where
-  pub unpack_header-wrong_size : {r : Refusal} → (length h ≡ 192 → ⊥) → r ≡ refusal_at WrongSize 0 → refused_with r ≡ unpack_header h
-  unfolding unpack_header
-  unpack_header-wrong_size n q = rw (q, ne_eqb (length h) 192 n)
-
-  module _ (long : length h ≡ 192) where
-    pub unpack_header-wrong_type : {r : Refusal} → wrong_type (get_or h 0 0) ≡ true → r ≡ refusal_at WrongType 0 → refused_with r ≡ unpack_header h
-    unfolding unpack_header
-    unpack_header-wrong_type t q = rw (q, eq-eqb (length h) 192 long, t)
-
-    pub unpack_header-accepted : {f : Fields} → wrong_type (get_or h 0 0) ≡ false → f ≡ fields_of h → accepted f ≡ unpack_header h
-    unfolding unpack_header
-    unpack_header-accepted t q = rw (q, eq-eqb (length h) 192 long, t)
+-- the two bytes of a word
+pub word-bytes : (h : List ℕ) (at : ℕ) → at + 2 ≤ length h → get_or h at 0 + get_or h (at + 1) 0 * 256 ≡ word_at h at
+unfolding from_low
+word-bytes h at k = rw (add-one, drop-cons h at 0 (omega arith), drop-cons h (suc at) 0 (omega arith)) (omega arith)
 
 -- ---- The shown name
 
-shown-at : (h : List ℕ) (n : ℕ) → get_or h (5 + n) 0 ≡ get_or h (5 + suc n - 1) 0
-shown-at h n = ap (λ i. get_or h i 0) (let z : 5 + n ≡ 5 + suc n - 1 = omega arith in z)
+last : (h : List ℕ) (n : ℕ) → get_or h (5 + n) 0 ≡ get_or h (5 + (suc n - 1)) 0
+last h n = ap (λ i. get_or h (5 + i) 0) (let z : n ≡ suc n - 1 = omega arith in z)
 
 -- a space at the end is left out
-pub shown-shorter : (h : List ℕ) (n : ℕ) → 0 < n → get_or h (5 + n - 1) 0 ≡ 0x20 → shown_count h (n - 1) ≡ shown_count h n
+pub shown-shorter : (h : List ℕ) (n : ℕ) → 0 < n → get_or h (5 + (n - 1)) 0 ≡ 0x20 → shown_count h (n - 1) ≡ shown_count h n
 unfolding shown_count
 shown-shorter h zero z e = absurd (omega arith)
-shown-shorter h (suc n) z e = rw (eq-eqb (get_or h (5 + n) 0) 0x20 (shown-at h n ∙ e)) (ap (shown_count h) (let z : suc n - 1 ≡ n = omega arith in z))
+shown-shorter h (suc n) z e = rw (eq-eqb (get_or h (5 + n) 0) 0x20 (last h n ∙ e)) (ap (shown_count h) (let z : suc n - 1 ≡ n = omega arith in z))
 
 -- at any other byte the shown name ends
-pub shown-here : (h : List ℕ) (n : ℕ) → 0 < n → (get_or h (5 + n - 1) 0 ≡ 0x20 → ⊥) → n ≡ shown_count h n
+pub shown-here : (h : List ℕ) (n : ℕ) → 0 < n → (get_or h (5 + (n - 1)) 0 ≡ 0x20 → ⊥) → n - 1 + 1 ≡ shown_count h n
 unfolding shown_count
 shown-here h zero z e = absurd (omega arith)
-shown-here h (suc n) z e = rw (ne_eqb (get_or h (5 + n) 0) 0x20 (λ q. e (sym (shown-at h n) ∙ q)))
+shown-here h (suc n) z e = rw (ne_eqb (get_or h (5 + n) 0) 0x20 (λ q. e (sym (last h n) ∙ q))) (omega arith)
 
-module _ (h : List ℕ) {a : HeaderAnswer} (e : header_answer a ≡ unpack_header h) where
-  span_none : {r : Refusal} → a ≡ Refused r → shown_span h ≡ refused_with r
+module _ (h : List ℕ) {a : Result Fields Refusal} (e : outcome_of a ≡ unpack_header h) where
+  span_none : {r : Refusal} → a ≡ Err r → shown_span h ≡ refused_with r
   unfolding shown_span
   span_none q = rw (← e, q)
 
-  pub shown_name-refused : {r : Refusal} → a ≡ Refused r → (p : ℕ × ℕ) → ([] ≡ shown_name h) × (p ≡ pointer_at p (shown_place h))
+  pub shown_name-refused : {r : Refusal} → a ≡ Err r → (p : ℕ × ℕ) → ([] ≡ shown_name h) × (p ≡ pointer_at p (shown_place h))
   unfolding shown_name shown_place
   shown_name-refused q p = rw (span_none q, shown_place) (refl, ap (λ k. (p.0, k)) (sym (add-zero p.1)))
 
-  module _ {f : Fields} (q : a ≡ Accepted f) where
+  module _ {f : Fields} (q : a ≡ Ok f) where
     pub shown_name-long : length h ≡ 192
-    shown_name-long = unpack_header-long h (sym e ∙ ap header_answer q)
+    shown_name-long = unpack_header-long h (sym e ∙ ap outcome_of q)
 
     span-some : shown_span h ≡ accepted (record { offset = 5; length = shown_count h 16 })
     unfolding shown_span

@@ -3,10 +3,8 @@ use Rattle.std.specs.Prelude.{ℕ, zero, suc, ◌+◌, Bool, cond, not, ◌||◌
 use Rattle.lists.specs.Places.{tabulate, part}
 use Rattle.lists.specs.Text.{low_first, from_low}
 use Rattle.refusal.specs.declared.Reason.TheVariants.{WrongSize, WrongType}
-use Rattle.refusal.specs.Outcome.{Outcome, refused, accepted, refuse, refused_with, if_room, mapped}
+use Rattle.refusal.specs.Outcome.{Outcome, refused, accepted, refuse, if_room, mapped}
 use Rattle.header.specs.declared.Fields.{Fields}
-use Rattle.header.specs.declared.HeaderAnswer.{HeaderAnswer}
-use Rattle.header.specs.declared.HeaderAnswer.TheVariants.{Accepted, Refused}
 
 -- ---- The layout
 
@@ -51,11 +49,6 @@ unpack_header h =
     cond (not (eqb (length h) 192)) (refuse WrongSize 0)
     (cond (wrong_type (get_or h 0 0)) (refuse WrongType 0)
     (accepted (fields_of h)))
-
--- what unpacking answers
-abbrev pub header_answer : HeaderAnswer → Outcome Fields
-header_answer (Accepted fields) = accepted fields
-header_answer (Refused r) = refused_with r
 
 -- ---- The shown name
 

@@ -7,12 +7,13 @@
 #![tactic(auto)]
 
 ghost use Rattle.std.specs.Prelude.{◌+◌, ◌≤◌, ◌≡◌, length, get_or};
+ghost use Rattle.refusal.specs.Outcome.{outcome_of};
 ghost use Rattle.std.proofs.lemmas.List.Edits.{sets};
 ghost use Rattle.lists.specs.Text.{low_first};
 ghost use Rattle.refusal.specs.Promise.{Written};
-ghost use Rattle.header.specs.Header.{filled, header_bytes, word_at, fields_of, wrong_name, wrong_type, pack_header, unpack_header, header_answer, shown_count, shown_name, shown_place, pointer_at};
+ghost use Rattle.header.specs.Header.{filled, header_bytes, word_at, fields_of, wrong_name, wrong_type, pack_header, unpack_header, shown_count, shown_name, shown_place, pointer_at};
 
-use refusal::{Put, Reason, Refusal};
+use refusal::{Reason, Refusal};
 
 pub const HEADER_BYTES: usize = 192;
 
@@ -42,47 +43,42 @@ const WORD_BYTES: usize = 2;
 // What a header says beside the name. The kind is what document 01 calls the type.
 #[derive(Clone, Copy)]
 pub struct Fields {
+    // Any number: every call takes one, and refuses by 8 what it does not take.
     pub kind: u8,
     pub start: u16,
     pub end: u16,
 }
 
-// What unpacking a header answers.
-#[derive(Clone, Copy)]
-pub enum HeaderAnswer {
-    Accepted(Fields),
-    Refused(Refusal),
-}
-
 // Puts a header together in a lent buffer, and answers the number of bytes put. It refuses a name that is too long, a type outside
 // 1 to 5 and an output that is too short.
-pub fn pack_header(fields: Fields, name: &[u8], out: &mut [u8]) -> Put
+pub fn pack_header(fields: Fields, name: &[u8], out: &mut [u8]) -> Result<usize, Refusal>
     ensures { Written (pack_header (length out.old) fields name.now) out.old result out.new }
 {
     if wrong_name(name.len()) {
-        return Put::Refused(refusal::at(Reason::WrongSize, 0));
+        return Err(Reason::WrongSize.into());
     }
     if wrong_type(fields.kind) {
-        return Put::Refused(refusal::at(Reason::WrongType, 0));
+        return Err(Reason::WrongType.into());
     }
     if out.len() < HEADER_BYTES {
-        return Put::Refused(refusal::at(Reason::NoRoom, 0));
+        return Err(Reason::NoRoom.into());
     }
     put_header(fields, name, out);
-    Put::Count(HEADER_BYTES)
+    Ok(HEADER_BYTES)
 }
 
 // Takes a header apart. It refuses what has not 192 bytes and a type outside 1 to 5.
-pub fn unpack_header(header: &[u8]) -> HeaderAnswer
-    ensures { header_answer result ≡ unpack_header header.now }
+#[tactic(auto, unfolding(crate::specs::Header::unpack_header))]
+pub fn unpack_header(header: &[u8]) -> Result<Fields, Refusal>
+    ensures { outcome_of result ≡ unpack_header header.now }
 {
     if header.len() != HEADER_BYTES {
-        return HeaderAnswer::Refused(refusal::at(Reason::WrongSize, 0));
+        return Err(Reason::WrongSize.into());
     }
     if wrong_type(header[TYPE_AT]) {
-        return HeaderAnswer::Refused(refusal::at(Reason::WrongType, 0));
+        return Err(Reason::WrongType.into());
     }
-    HeaderAnswer::Accepted(fields_of(header))
+    Ok(fields_of(header))
 }
 
 // Type and addresses by the bytes before the name, whatever the type is.
@@ -98,7 +94,7 @@ pub fn shown_name(header: &[u8]) -> &[u8]
     ensures bytes { result.now ≡ shown_name header.now }
     ensures place { result.ref_ptr ≡ pointer_at header.entry.ref_ptr (shown_place header.now) }
 {
-    let HeaderAnswer::Accepted(_) = unpack_header(header) else {
+    let Ok(_) = unpack_header(header) else {
         return &header[..0];
     };
     let end = NAME_AT + shown_count(header);
@@ -114,7 +110,7 @@ fn wrong_name(n: usize) -> bool
 fn wrong_type(kind: u8) -> bool
     ensures { result ≡ wrong_type kind }
 {
-    (kind < LEAST_TYPE) | (MOST_TYPE < kind)
+    !(LEAST_TYPE..=MOST_TYPE).contains(&kind)
 }
 
 // Puts the bytes of a header in front.
@@ -128,13 +124,13 @@ fn put_header(fields: Fields, name: &[u8], out: &mut [u8])
     put_name(name, out);
 }
 
+// A buffer and a place go in: the promise says by `sets` what is put where.
 fn put_word(word: u16, out: &mut [u8], at: usize)
     requires { at + 2 ≤ length out.old }
     ensures { out.new ≡ sets out.old at (low_first 2 word) }
 {
-    let n = word as u32;
-    out[at] = lists::low_byte(n, 0);
-    out[at + 1] = lists::low_byte(n, 1);
+    let end = at + WORD_BYTES;
+    out[at..end].copy_from_slice(&word.to_le_bytes());
 }
 
 // Byte i of a name, a space past its end.
@@ -144,17 +140,17 @@ fn name_byte(name: &[u8], i: usize) -> u8
     if i < name.len() { name[i] } else { SPACE }
 }
 
+// Byte by byte: `copy_from_slice` and `fill` are calls of the C library, and take more stack than the interface for C states.
 fn put_name(name: &[u8], out: &mut [u8])
     requires { 192 ≤ length out.old }
     ensures { out.new ≡ sets out.old 5 (filled name.now) }
 {
-    let mut i: usize = 0;
-    while i < NAME_BYTES {
+    for i in 0..NAME_BYTES {
         out[NAME_AT + i] = name_byte(name, i);
-        i = i + 1;
     }
 }
 
+#[tactic(auto, unfolding(crate::specs::Header::fields_of))]
 fn fields_of(header: &[u8]) -> Fields
     requires { 5 ≤ length header.now }
     ensures { result ≡ fields_of header.now }
@@ -170,20 +166,17 @@ fn word_at(header: &[u8], at: usize) -> u16
     requires { at + 2 ≤ length header.now }
     ensures { result ≡ word_at header.now at }
 {
-    let end = at + WORD_BYTES;
-    lists::from_low(&header[at..end]) as u16
+    u16::from_le_bytes([header[at], header[at + 1]])
 }
 
 fn shown_count(header: &[u8]) -> usize
     requires { 21 ≤ length header.now }
     ensures { result ≡ shown_count header.now 16 }
 {
-    let mut n = SHOWN_BYTES;
-    while 0 < n {
-        if header[NAME_AT + n - 1] != SPACE {
-            return n;
+    for i in (0..SHOWN_BYTES).rev() {
+        if header[NAME_AT + i] != SPACE {
+            return i + 1;
         }
-        n = n - 1;
     }
     0
 }

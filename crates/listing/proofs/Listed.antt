@@ -1,52 +1,47 @@
 -- What loading a file and listing it come to, by what their parts answered.
 use Prim.Native.Nat.{ℕ, ◌≤◌, ◌<◌}
-use native.Mathlib.Nat.{zero-add}
+use Rattle.std.specs.Prelude.{Result, Err, Ok}
 use native.Mathlib.Omega.{arith}
 use mathlib.Core.Path.{◌≡◌, refl, sym, ap, ap₂, ◌∙◌}
 use mathlib.Core.List.{List, ◌++◌}
 use borrow.Author.Tests.{lt-ltb, le-ltb}
 use lib.Dec.{ltb}
-use lib.ListN.{length, take, replicate, length-replicate}
+use lib.ListN.{length, take, drop, replicate, length-replicate}
 use lib.Seq.{length-take-le}
 use Rattle.lists.specs.Buffer.{put_at, Counts}
-use Rattle.lists.proofs.BufferLaws.{length-put, part-put, put-room, put_whole}
+use Rattle.lists.proofs.BufferLaws.{length-put, part-put, put_front, put_whole}
 use Rattle.refusal.specs.declared.Reason.TheVariants.{WrongSize}
 use Rattle.refusal.specs.declared.Refusal.{Refusal}
 use Rattle.refusal.specs.Refusal.{refusal_at}
-use Rattle.refusal.specs.Outcome.{Outcome, accepted, refused_with, mapped, and_then, puts}
+use Rattle.refusal.specs.Outcome.{Outcome, accepted, refused_with, mapped, and_then, puts, outcome_of}
 use Rattle.refusal.specs.Promise.{Answers, Fills, itself}
 use Rattle.refusal.proofs.OutcomeLaws.{cond-accepted, and_then-accepted, mapped-refused, mapped-accepted}
 use Rattle.refusal.proofs.PromiseLaws.{promise-refused}
 use Rattle.pulse.specs.Pulse.{fixed, classes}
 use Rattle.header.specs.Header.{shown_name}
 use Rattle.file.specs.declared.Loaded.{Loaded}
-use Rattle.file.specs.declared.FileAnswer.{FileAnswer}
-use Rattle.file.specs.declared.FileAnswer.TheVariants.{Accepted, Refused}
 use Rattle.file.specs.File.{data_bytes}
-use Rattle.file.specs.Reading.{FileRead, loaded_of, header_of, read_file, file_answer, FilePromise}
+use Rattle.file.specs.Reading.{FileRead, loaded_of, header_of, read_file, FilePromise}
 use Rattle.file.proofs.ReaderLaws.{by-rules}
 use Rattle.file.proofs.FileLaws.{Whole, read_file_by-whole}
 use Rattle.tap.specs.declared.TapInfo.{TapInfo}
-use Rattle.tap.specs.declared.TapAnswer.{TapAnswer}
-use Rattle.tap.specs.declared.TapAnswer.TheVariants.{Accepted as Held, Refused as NotHeld}
-use Rattle.tap.specs.Reading.{Tap, info_of, durations_of, tap_of, read_tap, tap_answer}
+use Rattle.tap.specs.Reading.{Tap, info_of, durations_of, tap_of, read_tap}
 use Rattle.tap.specs.Reading as tap
 use Rattle.tap.proofs.DataLaws.{read-enough, width-tap}
 use Rattle.listing.specs.Listing.{file_in, file_line, line, heading, listing}
-use Rattle.listing.specs.private.Lines.{Appended, answer_line, answer_text}
-use Rattle.listing.proofs.LineLaws.{append-length}
+use Rattle.listing.specs.private.Lines.{answer_line, answer_text}
 
 -- ---- Loading
 
 -- the answer, and the header that is kept
-abbrev pub Kept : (o : Outcome FileRead) (h : List ℕ) (r : FileAnswer) (h' : List ℕ) → Type 0
-Kept o h r h' = Answers itself loaded_of o (file_answer r) × Fills header_of o h h'
+abbrev pub Kept : (o : Outcome FileRead) (h : List ℕ) (r : Result Loaded Refusal) (h' : List ℕ) → Type 0
+Kept o h r h' = Answers itself loaded_of o (outcome_of r) × Fills header_of o h h'
 
-kept-refused : (o : Outcome FileRead) (h : List ℕ) {r s : Refusal} → o ≡ refused_with s → r ≡ s → Kept o h (Refused r) h
+kept-refused : (o : Outcome FileRead) (h : List ℕ) {r s : Refusal} → o ≡ refused_with s → r ≡ s → Kept o h (Err r) h
 kept-refused o h e q = promise-refused loaded_of header_of o h e (ap refused_with q)
 
 module _ (file h : List ℕ) where
-  pub file_in-wrong_size : {r : Refusal} → 16384 < length file → r ≡ refusal_at WrongSize 0 → Kept (file_in file) h (Refused r) h
+  pub file_in-wrong_size : {r : Refusal} → 16384 < length file → r ≡ refusal_at WrongSize 0 → Kept (file_in file) h (Err r) h
   unfolding file_in
   file_in-wrong_size l = kept-refused (file_in file) h (rw (lt-ltb 16384 (length file) l))
 
@@ -58,15 +53,15 @@ module _ (file h : List ℕ) where
     enough : read_tap 16364 file ≡ tap_of file
     enough = read-enough file 16364 (omega arith)
 
-    module _ {a : TapAnswer} {strip : List ℕ} (e : tap.TapPromise (read_tap 16364 file) (replicate 16364 0) a strip) where
-      pub file_in-no_tape : {r : Refusal} → a ≡ NotHeld r → Kept (file_in file) h (Refused r) h
+    module _ {a : Result TapInfo Refusal} {strip : List ℕ} (e : tap.TapPromise (read_tap 16364 file) (replicate 16364 0) a strip) where
+      pub file_in-no_tape : {r : Refusal} → a ≡ Err r → Kept (file_in file) h (Err r) h
       file_in-no_tape {r} q =
-          let t : tap_of file ≡ refused_with r = sym enough ∙ mapped-refused info_of (read_tap 16364 file) r (sym (ap tap_answer q) ∙ e.0) in
+          let t : tap_of file ≡ refused_with r = sym enough ∙ mapped-refused info_of (read_tap 16364 file) r (sym (ap outcome_of q) ∙ e.0) in
           kept-refused (file_in file) h {s = r} (in-tap ∙ ap (λ o. and_then o (λ t. read_file (classes fixed t.durations) 192 8192 0)) t) refl
 
-      module _ {t : TapInfo} (q : a ≡ Held t) where
+      module _ {t : TapInfo} (q : a ≡ Ok t) where
         held : (x : Tap) × (read_tap 16364 file ≡ accepted x) × (info_of x ≡ t)
-        held = mapped-accepted info_of (read_tap 16364 file) (sym (ap tap_answer q) ∙ e.0)
+        held = mapped-accepted info_of (read_tap 16364 file) (sym (ap outcome_of q) ∙ e.0)
 
         strip-put : strip ≡ put_at (replicate 16364 0) 0 held.0.durations
         strip-put = e.1 ∙ ap (λ o. put_at (replicate 16364 0) 0 (puts (mapped durations_of o))) held.1
@@ -92,7 +87,7 @@ module _ (file h : List ℕ) where
         read_is : read_file (classes fixed (take t.count strip)) 192 8192 0 ≡ file_in file
         read_is = rw front (sym (in-tap ∙ ap (λ o. and_then o (λ u. read_file (classes fixed u.durations) 192 8192 0)) (sym enough ∙ held.1)))
 
-        pub file_in-read : (r : FileAnswer) (b : List ℕ) {h' b' : List ℕ} → length h ≡ 192 → length b ≡ 8192
+        pub file_in-read : (r : Result Loaded Refusal) (b : List ℕ) {h' b' : List ℕ} → length h ≡ 192 → length b ≡ 8192
             → FilePromise (read_file (classes fixed (take t.count strip)) (length h) (length b) 0) h b r h' b' → Kept (file_in file) h r h'
         file_in-read r b l m s = let s' = rw (l, m, read_is) at s in (s'.0, s'.1.0)
 
@@ -105,9 +100,9 @@ file-in file f e =
     let t = and_then-accepted (tap_of file) (λ u. read_file (classes fixed u.durations) 192 8192 0) f s.1 in
     read_file_by-whole (by-rules (classes fixed t.0.durations)).long 192 8192 f 0 t.2
 
-line-answer : (file h : List ℕ) → length h ≡ 192 → (a : FileAnswer) (h' : List ℕ) → Kept (file_in file) h a h' → line (file_in file) ≡ answer_line a h'
-line-answer file h l (Refused r) h' k = ap line (mapped-refused loaded_of (file_in file) r k.0)
-line-answer file h l (Accepted x) h' k =
+line-answer : (file h : List ℕ) → length h ≡ 192 → (a : Result Loaded Refusal) (h' : List ℕ) → Kept (file_in file) h a h' → line (file_in file) ≡ answer_line a h'
+line-answer file h l (Err r) h' k = ap line (mapped-refused loaded_of (file_in file) r k.0)
+line-answer file h l (Ok x) h' k =
     let m = mapped-accepted loaded_of (file_in file) k.0 in
     let w = file-in file m.0 m.1 in
     let p : h' ≡ m.0.header = k.1 ∙ ap (λ o. put_at h 0 (puts (mapped header_of o))) m.1 ∙ put_whole h m.0.header (w.header ∙ sym l) in
@@ -115,15 +110,15 @@ line-answer file h l (Accepted x) h' k =
     ∙ ap (λ (y : Loaded). file_line y.fields (data_bytes y.fields) (shown_name m.0.header)) m.2
     ∙ ap (λ n. file_line x.fields (data_bytes x.fields) (shown_name n)) (sym p)
 
-pub listing-answer : (file h : List ℕ) → length h ≡ 192 → (a : FileAnswer) (h' : List ℕ) → Kept (file_in file) h a h' → answer_text a h' ≡ listing file
+pub listing-answer : (file h : List ℕ) → length h ≡ 192 → (a : Result Loaded Refusal) (h' : List ℕ) → Kept (file_in file) h a h' → answer_text a h' ≡ listing file
 unfolding listing
 listing-answer file h l a h' k = ap (λ xs. heading ++ xs) (sym (line-answer file h l a h' k))
 
--- what is put where there is room for every text
-pub listing-put : (file out : List ℕ) {n : ℕ} {text out' : List ℕ} → text ≡ listing file → Appended out 0 text n out' → length out ≡ 97 → length text ≤ 97
-    → (n ≡ length (listing file)) × ((out' ≡ put_at out 0 (listing file)) × Counts n out')
-listing-put file out {n} {text} {out'} e a l w =
-    let s : n ≡ length text = a.stop ∙ zero-add (length text) in
-    let p : out' ≡ put_at out 0 text = a.put ∙ put-room out 0 text (omega arith) in
-    let k : n ≤ length out' = omega (arith, append-length a) in
-    (s ∙ ap length e, (p ∙ ap (put_at out 0) e, (k, sym (length-take-le n out' k))))
+-- what is put where there is room for the text
+pub listing-put : (file out : List ℕ) {n : ℕ} {text copied : List ℕ} → text ≡ listing file → n ≡ length text → copied ≡ text → length text ≤ length out
+    → (n ≡ length (listing file)) × ((copied ++ drop n out ≡ put_at out 0 (listing file)) × Counts n (copied ++ drop n out))
+listing-put file out {n} {text} {copied} e l w room =
+    let p : copied ++ drop n out ≡ put_at out 0 text = rw (w, l) (sym (put_front out text room)) in
+    let s = ap length p ∙ length-put out 0 text in
+    let k : n ≤ length (copied ++ drop n out) = omega arith in
+    (l ∙ ap length e, (p ∙ ap (put_at out 0) e, (k, sym (length-take-le n (copied ++ drop n out) k))))

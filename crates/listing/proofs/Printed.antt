@@ -1,5 +1,7 @@
 -- What is printed of a damaged tape is the file that was written: the TAP file reads back as the strip, and demand 3 reads the strip.
 use Prim.Native.Nat.{ℕ, ◌≤◌}
+use Rattle.refusal.specs.declared.Refusal.{Refusal}
+use Rattle.std.specs.Prelude.{Result, ℕ, Err, Ok}
 use native.Mathlib.Omega.{arith}
 use mathlib.Core.Path.{◌≡◌, ap, ◌∙◌}
 use mathlib.Core.Logic.{⊎_elim}
@@ -7,10 +9,8 @@ use mathlib.Core.List.{List, ◌++◌}
 use borrow.Author.Tests.{le-leb, le-ltb}
 use lib.Dec.{lit≤}
 use lib.ListN.{length, take, get_or, length-take}
-use Rattle.refusal.specs.declared.Put.{Put}
-use Rattle.refusal.specs.declared.Put.TheVariants.{Count, Refused}
-use Rattle.refusal.specs.Outcome.{Outcome, accepted, mapped}
-use Rattle.refusal.specs.Promise.{put_answer, Written}
+use Rattle.refusal.specs.Outcome.{Outcome, accepted, mapped, outcome_of}
+use Rattle.refusal.specs.Promise.{Written}
 use Rattle.pulse.specs.Pulse.{fixed}
 use Rattle.block.proofs.BlockLaws.{length-block_pulses}
 use Rattle.header.proofs.HeaderLaws.{length-header}
@@ -57,15 +57,15 @@ module _ {f : File} {out out' : List ℕ} {count : ℕ} (sent : Sent f out count
       ⊎_elim (λ e. rw e (lit≤ tt)) (λ w. ⊎_elim (λ e. rw e (lit≤ tt)) (λ e. rw e (lit≤ tt)) w) (never-noise.put f out count out' sent i h)
 
 -- a writer that accepts answers the number of elements put
-answered-count : (r : Put) {o : Outcome (List ℕ)} {values : List ℕ} → o ≡ accepted values → put_answer r ≡ mapped length o → r ≡ Count (length values)
-answered-count (Count n) e a = let q : accepted n ≡ accepted _ = a ∙ ap (mapped length) e in cc
-answered-count (Refused w) e a = absurd (let q = a ∙ ap (mapped length) e in let z : ◌≡◌ {A = ℕ} 0 1 = cc in omega arith)
+answered-count : (r : Result ℕ Refusal) {o : Outcome (List ℕ)} {values : List ℕ} → o ≡ accepted values → outcome_of r ≡ mapped length o → r ≡ Ok (length values)
+answered-count (Ok n) e a = let q : accepted n ≡ accepted _ = a ∙ ap (mapped length) e in cc
+answered-count (Err w) e a = absurd (let q = a ∙ ap (mapped length) e in let z : ◌≡◌ {A = ℕ} 0 1 = cc in omega arith)
 
 -- ---- The claim
 
 -- the strip is read from its TAP file, and the file from the strip
 strip-listed : {f : File} {out out' : List ℕ} {count : ℕ} → Sent f out count out' → {strip : List ℕ} → FileDamaged fixed f count strip
-    → (version : ℕ) (tape : List ℕ) (n : ℕ) (tape' : List ℕ) → Written (write_tap (length tape) version strip) tape (Count n) tape' → n ≤ 16384
+    → (version : ℕ) (tape : List ℕ) (n : ℕ) (tape' : List ℕ) → Written (write_tap (length tape) version strip) tape (Ok n) tape' → n ≤ 16384
     → listing (take n tape') ≡ heading ++ line (accepted (as_written f strip))
 unfolding listing
 strip-listed sent {strip} d version tape n tape' w small =
@@ -77,7 +77,7 @@ printed-as-written = record {
   listed = λ f out count out' sent strip d. strip-listed sent d;
   covered = λ f out count out' sent strip d fits n e tape room r tape' w.
       let accepts = round_trip.written (length tape) 1 strip (strip-writable sent d fits) (rw e at room) in
-      let answer : r ≡ Count n = answered-count r accepts w.0 ∙ rw e in
+      let answer : r ≡ Ok n = answered-count r accepts w.0 ∙ rw e in
       (answer, λ small. strip-listed sent d 1 tape n tape' (rw answer at w) small);
   written = λ f out count out' sent. (demand-3.within f out count out' sent, written-fits sent);
 }

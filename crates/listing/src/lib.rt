@@ -10,16 +10,19 @@
 ghost use Rattle.std.specs.Prelude.{◌+◌, ◌≤◌, ◌<◌, ◌≡◌, ◌∷◌, [], ◌++◌, map, length};
 ghost use Rattle.lists.specs.Buffer.{put_at, Counts};
 ghost use Rattle.refusal.specs.Refusal.{number_of};
-ghost use Rattle.refusal.specs.Outcome.{mapped, puts};
+ghost use Rattle.refusal.specs.Outcome.{mapped, puts, outcome_of};
 ghost use Rattle.file.specs.File.{data_bytes};
-ghost use Rattle.file.specs.Reading.{loaded_of, header_of, file_answer};
-ghost use Rattle.listing.specs.Listing.{digit, digits, decimal, hexadecimal, field, printed, file_line, refusal_line, file_in, listing};
-ghost use Rattle.listing.specs.private.Lines.{Appended, answer_text};
+ghost use Rattle.file.specs.Reading.{loaded_of, header_of};
+ghost use Rattle.listing.specs.Listing.{digit, decimal, hexadecimal, field, printed, file_line, refusal_line, file_in, listing};
+ghost use Rattle.listing.specs.private.Lines.{answer_text};
+ghost use Rattle.arrayvec.specs.ArrayString.{array_string_len};
 
-use file::FileAnswer;
+use arrayvec::ArrayString;
+use file::Loaded;
 use header::Fields;
+use itoa::Buffer;
 use refusal::{Reason, Refusal};
-use tap::TapAnswer;
+use std::io::{ErrorKind, Read};
 
 // The longest input that is listed: 16 KiB.
 const MOST_INPUT: usize = 16_384;
@@ -33,13 +36,8 @@ pub const MOST_TEXT: usize = 97;
 // Room for the durations of such an input: one for each data byte.
 const STRIP_ROOM: usize = MOST_INPUT - tap::TAP_HEADER_BYTES;
 
-// The most digits of a 64-bit number.
-const MOST_DIGITS: usize = 20;
-
-// The characters that print as themselves.
-const FIRST_PRINTED: u8 = 0x20;
-
-const LAST_PRINTED: u8 = 0x7e;
+// The text of a listing: the bytes put so far, with room for every text.
+type Text = ArrayString<MOST_TEXT>;
 
 // Lists the program file of a TAP file, from place 0 on: puts the text in front, and answers the number of bytes put. Where the file is
 // refused the text says so; every text fits the buffer.
@@ -50,159 +48,148 @@ pub fn list_tape(file: &[u8], out: &mut [u8; MOST_TEXT]) -> usize
 {
     let mut header = [0u8; header::HEADER_BYTES];
     let answer = load(file, &mut header);
-    put_listing(answer, &header, out)
+    let text = text_of(answer, &header);
+    let n = text.len();
+    out[..n].copy_from_slice(text.as_bytes());
+    n
+}
+
+// Reads until the buffer is full or the input ends, and answers how many bytes there are. A read that fails counts as the end of the input.
+pub fn read_input<R: Read>(input: &mut R, buffer: &mut [u8]) -> usize
+    ensures part { result ≤ length buffer.new }
+    ensures kept { length buffer.new ≡ length buffer.old }
+{
+    let mut n = 0;
+    // Bounded, so that it ends even where every read is interrupted.
+    for _ in 0..u64::MAX {
+        if n == buffer.len() {
+            break;
+        }
+        match input.read(&mut buffer[n..]) {
+            Ok(0) => break,
+            Ok(count) => n += count,
+            Err(e) if e.kind() == ErrorKind::Interrupted => {}
+            Err(_) => break,
+        }
+    }
+    n
 }
 
 // Reads the program file of a TAP file and keeps its header.
-fn load(file: &[u8], header: &mut [u8]) -> FileAnswer
-    requires { length header.old ≡ 192 }
-    ensures answer { file_answer result ≡ mapped loaded_of (file_in file.now) }
+fn load(file: &[u8], header: &mut [u8; header::HEADER_BYTES]) -> Result<Loaded, Refusal>
+    ensures answer { outcome_of result ≡ mapped loaded_of (file_in file.now) }
     ensures header { header.new ≡ put_at header.old 0 (puts (mapped header_of (file_in file.now))) }
 {
     if MOST_INPUT < file.len() {
-        return FileAnswer::Refused(refusal::at(Reason::WrongSize, 0));
+        return Err(Reason::WrongSize.into());
     }
     let mut strip = [0u32; STRIP_ROOM];
     let mut bytes = [0u8; block::MOST_BYTES];
-    match tap::read_tap(file, &mut strip) {
-        TapAnswer::Refused(r) => FileAnswer::Refused(r),
-        TapAnswer::Accepted(t) => {
-            let count = t.count;
-            file::read_file(&strip[..count], 0, header, &mut bytes)
-        }
-    }
+    let t = tap::read_tap(file, &mut strip)?;
+    file::read_file(&strip[..t.count], 0, header, &mut bytes)
 }
 
-// ---- Text. Each function puts a text from `at` on and answers the place after it.
+// ---- Text. Each function appends to it, and says how many bytes that needs at most.
 
-fn put_listing(answer: FileAnswer, header: &[u8], out: &mut [u8]) -> usize
-    requires { 97 ≤ length out.old }
-    ensures { Appended out.old 0 (answer_text answer header.now) result out.new }
+// The listing, by what the file reader answered and the header that it put.
+fn text_of(answer: Result<Loaded, Refusal>, header: &[u8]) -> Text
+    ensures { result.bytes ≡ answer_text answer header.now }
 {
-    let at = put_text(b"type start end bytes name\n", out, 0);
+    let mut text = Text::new();
+    text.push_str("type start end bytes name\n");
     match answer {
-        FileAnswer::Refused(r) => put_refusal(r, out, at),
-        FileAnswer::Accepted(l) => {
-            let fields = l.fields;
-            put_fields(fields, header::shown_name(header), out, at)
-        }
+        Err(r) => put_refusal(r, &mut text),
+        Ok(l) => put_fields(l.fields, header::shown_name(header), &mut text),
     }
+    text
 }
 
-// It needs 8 bytes for the word and 21 for each number.
-fn put_refusal(r: Refusal, out: &mut [u8], at: usize) -> usize
-    requires { at + 71 ≤ length out.old }
-    ensures { Appended out.old at (refusal_line (number_of r.reason) r.block r.place) result out.new }
+// Not by `write!` of the refusal: its contract does not say that it succeeds where there is room.
+#[tactic(auto, using(std::proofs::Common::append_assoc), unfolding(crate::specs::Listing::refusal_line, lists::specs::Text::ascii))]
+fn put_refusal(r: Refusal, text: &mut Text)
+    requires { array_string_len text.old + 71 ≤ 97 }
+    ensures { text.new.bytes ≡ text.old.bytes ++ refusal_line (number_of r.reason) r.block r.place }
 {
-    let reason = r.reason;
-    let after_word = put_text(b"refused ", out, at);
-    let after_number = put_number(refusal::number_of(reason) as u64, b' ', out, after_word);
-    let after_block = put_number(r.block as u64, b' ', out, after_number);
-    put_number(r.place as u64, b'\n', out, after_block)
+    text.push_str("refused ");
+    put_number(u64::from(u32::from(r.reason)), ' ', text);
+    put_number(u64::from(r.block), ' ', text);
+    put_number(r.place as u64, '\n', text);
 }
 
-// It needs 21 bytes for each number, 5 for each address, those of the name and the end of the line.
-fn put_fields(fields: Fields, name: &[u8], out: &mut [u8], at: usize) -> usize
-    requires { at + 53 + length name.now ≤ length out.old }
-    ensures { Appended out.old at (file_line fields (data_bytes fields) name.now) result out.new }
+fn put_fields(fields: Fields, name: &[u8], text: &mut Text)
+    requires { array_string_len text.old + 53 + length name.now ≤ 97 }
+    ensures { text.new.bytes ≡ text.old.bytes ++ file_line fields (data_bytes fields) name.now }
 {
-    let after_kind = put_number(fields.kind as u64, b' ', out, at);
-    let after_start = put_address(fields.start, out, after_kind);
-    let after_end = put_address(fields.end, out, after_start);
-    let after_count = put_number(data_bytes(fields) as u64, b' ', out, after_end);
-    let after_name = put_printed(name, out, after_count);
-    put_text(b"\n", out, after_name)
+    put_number(u64::from(fields.kind), ' ', text);
+    put_address(fields.start, text);
+    put_address(fields.end, text);
+    put_number(data_bytes(fields), ' ', text);
+    put_printed(name, text);
+    text.push('\n');
 }
 
 // How many bytes the program has; none where the end is not above the start.
-fn data_bytes(fields: Fields) -> usize
+fn data_bytes(fields: Fields) -> u64
     ensures { result ≡ data_bytes fields }
 {
-    let start = fields.start as usize;
-    let end = fields.end as usize;
-    if end < start { 0 } else { end - start }
-}
-
-fn put_text(text: &[u8], out: &mut [u8], at: usize) -> usize
-    requires { at + length text.now ≤ length out.old }
-    ensures { Appended out.old at text.now result out.new }
-{
-    out[at..at + text.len()].copy_from_slice(text);
-    at + text.len()
+    u64::from(fields.end.saturating_sub(fields.start))
 }
 
 // A number and a character after it.
-fn put_number(n: u64, after: u8, out: &mut [u8], at: usize) -> usize
-    requires { at + 21 ≤ length out.old }
-    ensures { Appended out.old at (decimal n ++ after ∷ []) result out.new }
+fn put_number(n: u64, after: char, text: &mut Text)
+    requires room { array_string_len text.old + 21 ≤ 97 }
+    requires ascii { after < 128 }
+    ensures text { text.new.bytes ≡ text.old.bytes ++ decimal n ++ after ∷ [] }
+    ensures room { array_string_len text.new ≤ array_string_len text.old + 21 }
 {
-    let end = put_digits(MOST_DIGITS, n, out, at);
-    out[end] = after;
-    end + 1
-}
-
-// The digits of a number that has at most so many.
-fn put_digits(most: usize, n: u64, out: &mut [u8], at: usize) -> usize
-    requires { at + most ≤ length out.old }
-    ensures { Appended out.old at (digits most n) result out.new }
-{
-    if most == 0 {
-        return at;
-    }
-    if n < 10 {
-        out[at] = digit_of(n);
-        return at + 1;
-    }
-    let last = put_digits(most - 1, n / 10, out, at);
-    out[last] = digit_of(n % 10);
-    last + 1
+    let mut digits = Buffer::new();
+    text.push_str(digits.format(n));
+    text.push(after);
 }
 
 // An address and a space after it.
-fn put_address(address: u16, out: &mut [u8], at: usize) -> usize
-    requires { at + 5 ≤ length out.old }
-    ensures { Appended out.old at (field (hexadecimal address)) result out.new }
+#[tactic(auto, using(std::proofs::Common::append_assoc), unfolding(crate::specs::Listing::hexadecimal))]
+fn put_address(address: u16, text: &mut Text)
+    requires { array_string_len text.old + 5 ≤ 97 }
+    ensures text { text.new.bytes ≡ text.old.bytes ++ field (hexadecimal address) }
+    ensures room { array_string_len text.new ≡ array_string_len text.old + 5 }
 {
-    let n = address as u64;
-    out[at] = digit_of(n / 4096);
-    out[at + 1] = digit_of(n / 256 % 16);
-    out[at + 2] = digit_of(n / 16 % 16);
-    out[at + 3] = digit_of(n % 16);
-    out[at + 4] = b' ';
-    at + 5
+    let n = u32::from(address);
+    text.push(digit_of(n / 4096));
+    text.push(digit_of(n / 256 % 16));
+    text.push(digit_of(n / 16 % 16));
+    text.push(digit_of(n % 16));
+    text.push(' ');
 }
 
 // The character of a digit below 16.
-fn digit_of(d: u64) -> u8
+#[tactic(auto, unfolding(crate::specs::Listing::digit))]
+fn digit_of(d: u32) -> char
     requires { d < 16 }
-    ensures { result ≡ digit d }
+    ensures value { result ≡ digit d }
+    ensures ascii { result < 128 }
 {
-    if d < 10 {
-        b'0' + d as u8
-    } else {
-        b'A' + (d - 10) as u8
-    }
+    char::from_digit(d, 16).unwrap().to_ascii_uppercase()
 }
 
-fn put_printed(name: &[u8], out: &mut [u8], at: usize) -> usize
-    requires { at + length name.now ≤ length out.old }
-    ensures { Appended out.old at (map printed name.now) result out.new }
+fn put_printed(name: &[u8], text: &mut Text)
+    requires { array_string_len text.old + length name.now ≤ 97 }
+    ensures text { text.new.bytes ≡ text.old.bytes ++ map printed name.now }
+    ensures room { array_string_len text.new ≡ array_string_len text.old + length name.now }
 {
-    let mut i: usize = 0;
-    while i < name.len() {
-        out[at + i] = printed_as(name[i]);
-        i = i + 1;
+    for &b in name {
+        text.push(printed_as(b));
     }
-    at + name.len()
 }
 
 // A full stop for a byte that does not print.
-fn printed_as(b: u8) -> u8
-    ensures { result ≡ printed b }
+#[tactic(auto, unfolding(crate::specs::Listing::printed))]
+fn printed_as(b: u8) -> char
+    ensures value { result ≡ printed b }
+    ensures ascii { result < 128 }
 {
-    if (b < FIRST_PRINTED) | (LAST_PRINTED < b) {
-        b'.'
-    } else {
-        b
+    match b {
+        b' '..=b'~' => char::from(b),
+        _ => '.',
     }
 }

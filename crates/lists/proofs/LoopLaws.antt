@@ -6,7 +6,7 @@ use native.Mathlib.Omega.{arith}
 use mathlib.Core.Path.{◌≡◌, refl, sym, ap, ap₂, ◌∙◌}
 use mathlib.Core.Bool.{Bool, true, false}
 use mathlib.Core.List.{List, [], ◌∷◌, ◌++◌}
-use mathlib.Core.Option.{Option, none, some}
+use Rattle.std.specs.Prelude.{Option, None, Some}
 use lib.ListN.{length, drop, get_or, set}
 use lib.Seq.{sets, length-sets, drop-cons}
 use Rattle.lists.specs.Places.{first_from, tabulate}
@@ -29,11 +29,11 @@ module _ (f : ℕ → Bool) (n : ℕ) where
   unfolding first_from
   first-passed i h e = rw (more i h, e, add-one)
 
-  pub first-here : (i : ℕ) → i < n → f i ≡ true → first_left i ≡ some i
+  pub first-here : (i : ℕ) → i < n → f i ≡ true → first_left i ≡ Some i
   unfolding first_from
   first-here i h e = rw (more i h, e)
 
-  pub first-over : (i : ℕ) → n ≤ i → first_left i ≡ none
+  pub first-over : (i : ℕ) → n ≤ i → first_left i ≡ None
   unfolding first_from
   first-over i h = let z : n - i ≡ 0 = omega arith in rw z
 

@@ -6,36 +6,36 @@ use native.Mathlib.Decide.{ℕ_discrete}
 use mathlib.Core.Path.{◌≡◌, refl, sym, ap, ap₂, ◌∙◌}
 use mathlib.Core.Bool.{Bool, true, false, cond}
 use mathlib.Core.List.{List, [], ◌∷◌, ◌++◌}
-use mathlib.Core.Option.{Option, none, some}
+use Rattle.std.specs.Prelude.{Option, None, Some}
 use lib.ListN.{length, get_or, set}
 use Rattle.lists.specs.Places.{Below, first_from, First, tabulate}
 
 -- ---- first_from
 
 -- where none is found, none passes
-pub none_first : (f : ℕ → Bool) (count at : ℕ) → first_from f count at ≡ none → (i : ℕ) → at ≤ i → i < at + count → f i ≡ false
+pub none_first : (f : ℕ → Bool) (count at : ℕ) → first_from f count at ≡ None → (i : ℕ) → at ≤ i → i < at + count → f i ≡ false
 unfolding first_from
 none_first f zero at e i a b = absurd (omega arith)
 none_first f (suc count) at e i a b = go (λ e'. none_first f count (suc at) e' i) (f at) refl (ℕ_discrete at i)
   where
-    go : (first_from f count (suc at) ≡ none → suc at ≤ i → i < suc at + count → f i ≡ false) → (t : Bool) → f at ≡ t → Dec (at ≡ i) → f i ≡ false
+    go : (first_from f count (suc at) ≡ None → suc at ≤ i → i < suc at + count → f i ≡ false) → (t : Bool) → f at ≡ t → Dec (at ≡ i) → f i ≡ false
     go r true t d = absurd (let z : ◌≡◌ {A = ℕ} 0 1 = (let e' = rw t at e in cc) in omega arith)
     go r false t (yes d) = rw (← d) t
     go r false t (no d) = r (rw t at e) (omega arith) (omega arith)
 
 -- where none passes, none is found
-pub first-none : (f : ℕ → Bool) (count at : ℕ) → ((i : ℕ) → at ≤ i → i < at + count → f i ≡ false) → first_from f count at ≡ none
+pub first-none : (f : ℕ → Bool) (count at : ℕ) → ((i : ℕ) → at ≤ i → i < at + count → f i ≡ false) → first_from f count at ≡ None
 unfolding first_from
 first-none f zero at h = refl
 first-none f (suc count) at h = rw (h at (omega arith) (omega arith)) (first-none f count (suc at) (λ i a b. h i (omega arith) (omega arith)))
 
 -- what is found is the smallest that passes
-pub some_first : (f : ℕ → Bool) (count at p : ℕ) → first_from f count at ≡ some p → First f count at p
+pub some_first : (f : ℕ → Bool) (count at p : ℕ) → first_from f count at ≡ Some p → First f count at p
 unfolding first_from
 some_first f zero at p e = absurd (let z : ◌≡◌ {A = ℕ} 0 1 = cc in omega arith)
 some_first f (suc count) at p e = go (some_first f count (suc at) p) (f at) refl
   where
-    go : (first_from f count (suc at) ≡ some p → First f count (suc at) p) → (t : Bool) → f at ≡ t → First f (suc count) at p
+    go : (first_from f count (suc at) ≡ Some p → First f count (suc at) p) → (t : Bool) → f at ≡ t → First f (suc count) at p
     go later true t =
         let z : at ≡ p = (let e' = rw t at e in cc) in
         record { low = omega arith; high = omega arith; passes = rw (← z) t; least = λ i a b. absurd (omega arith) }
@@ -49,7 +49,7 @@ some_first f (suc count) at p e = go (some_first f count (suc at) p) (f at) refl
         }
 
 -- the smallest that passes is found
-pub first_some : {f : ℕ → Bool} {count at p : ℕ} → First f count at p → first_from f count at ≡ some p
+pub first_some : {f : ℕ → Bool} {count at p : ℕ} → First f count at p → first_from f count at ≡ Some p
 unfolding first_from
 first_some {count = zero} r = absurd (omega arith)
 first_some {f} {count = suc count} {at} {p} r = elim (ℕ_discrete at p) [
@@ -60,8 +60,8 @@ first_some {f} {count = suc count} {at} {p} r = elim (ℕ_discrete at p) [
 
 -- what was found among the first numbers, else what is found after them
 abbrev pub or_else : Option ℕ → Option ℕ → Option ℕ
-or_else none later = later
-or_else (some i) later = some i
+or_else None later = later
+or_else (Some i) later = Some i
 
 -- one number more, at the end
 pub first-snoc : (f : ℕ → Bool) (count at : ℕ) → first_from f (suc count) at ≡ or_else (first_from f count at) (first_from f 1 (at + count))
@@ -71,7 +71,7 @@ first-snoc f (suc count) at =
     let e : at + suc count ≡ suc at + count = omega arith in
     go (f at) _ _ _ (rw e (first-snoc f count (suc at)))
   where
-    go : (t : Bool) (whole begun end : Option ℕ) → whole ≡ or_else begun end → cond t (some at) whole ≡ or_else (cond t (some at) begun) end
+    go : (t : Bool) (whole begun end : Option ℕ) → whole ≡ or_else begun end → cond t (Some at) whole ≡ or_else (cond t (Some at) begun) end
     go true whole begun end r = refl
     go false whole begun end r = r
 

@@ -7,6 +7,8 @@ use mathlib.Core.Bool.{Bool, true, false}
 use mathlib.Core.List.{List, [], ◌∷◌}
 use borrow.Author.Tests.{eqb-true, eq-eqb}
 use lib.Dec.{eqb, lit<}
+use Rattle.std.proofs.Math.Nat.{div-div-eq-div-mul}
+use Rattle.std.specs.Int.{w32, to_le_bytes}
 use lib.ListN.{length, take, drop, get_or, length-take, length-drop}
 use lib.Seq.{take_all, length-take-le, get_or-drop}
 use Rattle.lists.specs.Places.{part, Below}
@@ -19,6 +21,11 @@ pub length-low : (width n : ℕ) → length (low_first width n) ≡ width
 unfolding low_first
 length-low zero n = refl
 length-low (suc width) n = ap suc (length-low width (n / 256))
+
+-- the four bytes of the library's method
+pub le_bytes-low : (n : ℕ) → to_le_bytes w32 n ≡ low_first 4 n
+unfolding low_first
+le_bytes-low n = rw (div-div-eq-div-mul n 256 256, div-div-eq-div-mul n (256 * 256) 256) refl
 
 -- bytes hold every number that is not too large for them
 pub from_low_lem : (width n : ℕ) → n < 256 ^ width → from_low (low_first width n) ≡ n

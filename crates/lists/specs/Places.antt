@@ -1,11 +1,11 @@
 -- A test over numbers, and a list by its places.
 use Rattle.std.specs.Prelude.{ℕ, zero, suc, ◌+◌, ◌≤◌, ◌<◌, ◌≡◌, Bool, true, false, cond, List, [], ◌∷◌, take, drop, get_or}
-use Rattle.std.proofs.Math.Option.{Option, none, some}
+use Rattle.std.specs.Prelude.{Option, None, Some}
 
 -- the smallest of at, at + 1 .. at + count - 1 that passes the test
 unfoldable pub first_from : (ℕ → Bool) → ℕ → ℕ → Option ℕ
-first_from f zero at = none
-first_from f (suc count) at = let later = first_from f count (suc at) in cond (f at) (some at) later
+first_from f zero at = None
+first_from f (suc count) at = let later = first_from f count (suc at) in cond (f at) (Some at) later
 
 -- 'the smallest' in words: p is one of these numbers, it passes, and none before it does
 pub record First (f : ℕ → Bool) (count at p : ℕ) : Type 0 where

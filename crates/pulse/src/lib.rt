@@ -5,7 +5,7 @@
 //   written as     -         360          520          688          -
 #![tactic(auto)]
 
-ghost use Rattle.std.specs.Prelude.{◌≡◌, cond};
+ghost use Rattle.std.specs.Prelude.{◌≡◌};
 ghost use Rattle.pulse.specs.Pulse.{class_of, fixed, written_as, same};
 ghost use Rattle.pulse.specs.Units.{byte_cycles, cycles_of, units_of};
 
@@ -47,26 +47,25 @@ impl Thresholds {
 }
 
 // The class of a pulse.
+#[tactic(auto, unfolding(crate::specs::Pulse::class_of))]
 pub fn class_of(t: Thresholds, pulse: Cycles) -> Class
     ensures { result ≡ class_of t pulse.0 }
 {
     let cycles = pulse.0;
-    pick(
-        cycles < t.short.0,
-        Class::Noise,
-        pick(
-            cycles < t.medium.0,
-            Class::Short,
-            pick(
-                cycles < t.long.0,
-                Class::Medium,
-                pick(cycles < t.noise.0, Class::Long, Class::Noise),
-            ),
-        ),
-    )
+    if cycles < t.short.0 {
+        Class::Noise
+    } else if cycles < t.medium.0 {
+        Class::Short
+    } else if cycles < t.long.0 {
+        Class::Medium
+    } else if cycles < t.noise.0 {
+        Class::Long
+    } else {
+        Class::Noise
+    }
 }
 
-// Whether a pulse is of one class. Each test runs without a branch.
+// Whether a pulse is of one class. Each test runs without a branch, and asks for other thresholds: they differ by more than a constant.
 pub fn is_short(t: Thresholds, pulse: Cycles) -> bool
     ensures { result ≡ same (class_of t pulse.0) Class.Short }
 {
@@ -86,13 +85,6 @@ pub fn is_long(t: Thresholds, pulse: Cycles) -> bool
 {
     let cycles = pulse.0;
     (t.short.0 <= cycles) & (t.medium.0 <= cycles) & (t.long.0 <= cycles) & (cycles < t.noise.0)
-}
-
-// One of two classes.
-fn pick(test: bool, yes: Class, no: Class) -> Class
-    ensures { result ≡ cond test yes no }
-{
-    if test { yes } else { no }
 }
 
 pub const SHORT_CYCLES: Cycles = Cycles(360);
@@ -123,27 +115,14 @@ const UNIT_CYCLES: u32 = 8;
 const MOST_UNITS: Units = Units(0x1fff_ffff);
 
 // A number of units in cycles. There is none where it does not fit a pulse's 32 bits.
-#[derive(Clone, Copy)]
-pub enum InCycles {
-    Fits(Cycles),
-    TooLong,
-}
-
-// A number of cycles in units. There is none for one between two units.
-#[derive(Clone, Copy)]
-pub enum InUnits {
-    Whole(Units),
-    Between,
-}
-
-pub fn cycles_of(u: Units) -> InCycles
+pub fn cycles_of(u: Units) -> Option<Cycles>
     ensures { result ≡ cycles_of u }
 {
     let units = u.0;
     if units <= MOST_UNITS.0 {
-        InCycles::Fits(Cycles(units * UNIT_CYCLES))
+        Some(Cycles(units * UNIT_CYCLES))
     } else {
-        InCycles::TooLong
+        None
     }
 }
 
@@ -154,13 +133,14 @@ pub fn byte_cycles(units: u8) -> Cycles
     Cycles(units as u32 * UNIT_CYCLES)
 }
 
-pub fn units_of(c: Cycles) -> InUnits
+// A number of cycles in units. There is none for one between two units.
+pub fn units_of(c: Cycles) -> Option<Units>
     ensures { result ≡ units_of c }
 {
     let cycles = c.0;
     if cycles % UNIT_CYCLES == 0 {
-        InUnits::Whole(Units(cycles / UNIT_CYCLES))
+        Some(Units(cycles / UNIT_CYCLES))
     } else {
-        InUnits::Between
+        None
     }
 }

@@ -3,7 +3,7 @@ use Prim.Native.Nat.{ℕ, ◌≤◌, ◌<◌}
 use native.Mathlib.Omega.{arith}
 use mathlib.Core.Path.{◌≡◌, refl}
 use mathlib.Core.Bool.{Bool, false, cond}
-use mathlib.Core.Option.{Option, none, some}
+use Rattle.std.specs.Prelude.{Option, None, Some}
 use borrow.Author.Tests.{lt-ltb, le-ltb, ltb-false}
 use lib.Dec.{ltb}
 use Rattle.lists.proofs.BoolLaws.{cond-second}
@@ -23,12 +23,12 @@ cond-accepted t r later given = cond-second t (refused_with r) later (accepted g
 
 -- then no place was found
 pub refuse_there-accepted : {A : Type 0} (reason : ℕ → Reason) (found : Option ℕ) (later : Outcome A) (given : A)
-    → refuse_there reason found later ≡ accepted given → (found ≡ none) × (later ≡ accepted given)
-refuse_there-accepted reason none later given e = (refl, e)
-refuse_there-accepted reason (some place) later given e = absurd (let z : ◌≡◌ {A = ℕ} 0 1 = cc in omega arith)
+    → refuse_there reason found later ≡ accepted given → (found ≡ None) × (later ≡ accepted given)
+refuse_there-accepted reason None later given e = (refl, e)
+refuse_there-accepted reason (Some place) later given e = absurd (let z : ◌≡◌ {A = ℕ} 0 1 = cc in omega arith)
 
 pub refuse_first-accepted : {A : Type 0} (reason : Reason) (found : Option ℕ) (later : Outcome A) (given : A)
-    → refuse_first reason found later ≡ accepted given → (found ≡ none) × (later ≡ accepted given)
+    → refuse_first reason found later ≡ accepted given → (found ≡ None) × (later ≡ accepted given)
 refuse_first-accepted reason = refuse_there-accepted (λ _. reason)
 
 -- ---- if_room

@@ -1,6 +1,7 @@
 -- Laws of what a call promises, proved once for all calls: refused, and accepted. That a call refuses for want of room is `if_room-no_room`
 -- of OutcomeLaws.
 use Prim.Native.Nat.{ℕ}
+use Rattle.std.specs.Prelude.{Err, Ok}
 use native.Mathlib.Omega.{arith}
 use mathlib.Core.Path.{◌≡◌, ap}
 use mathlib.Core.List.{List, []}
@@ -8,7 +9,6 @@ use borrow.Author.Tests.{le-leb}
 use lib.ListN.{length}
 use Rattle.lists.specs.Buffer.{put_at}
 use Rattle.refusal.specs.declared.Refusal.{Refusal}
-use Rattle.refusal.specs.declared.Put.TheVariants.{Count, Refused}
 use Rattle.refusal.specs.Refusal.{Why}
 use Rattle.refusal.specs.Outcome.{Outcome, refused, accepted, refused_with}
 use Rattle.refusal.specs.Promise.{Answers, Fills, itself, Written}
@@ -32,7 +32,7 @@ pub promise-refused : {A B : Type 0} (said : A → B) (put : A → List ℕ) (o 
     → answer ≡ refused why → Answers itself said o answer × Fills put o out out
 promise-refused said put o out e q = (answers-refused said o e q, fills-refused put o out e)
 
-pub written-refused : (o : Outcome (List ℕ)) (out : List ℕ) {r s : Refusal} → o ≡ refused_with s → r ≡ s → Written o out (Refused r) out
+pub written-refused : (o : Outcome (List ℕ)) (out : List ℕ) {r s : Refusal} → o ≡ refused_with s → r ≡ s → Written o out (Err r) out
 written-refused o out e q = promise-refused length itself o out e (ap refused_with q)
 
 -- ---- Accepted: a part of what is given is answered, and a part is put
@@ -51,5 +51,5 @@ pub promise-accepted : {A B : Type 0} (said : A → B) (put : A → List ℕ) (o
 promise-accepted said put o out e l q = (answers-accepted said o e l, fills-accepted put o out e q)
 
 pub written-accepted : (o : Outcome (List ℕ)) (out : List ℕ) {values out' : List ℕ} {count : ℕ} → o ≡ accepted values → length values ≡ count
-    → out' ≡ put_at out 0 values → Written o out (Count count) out'
+    → out' ≡ put_at out 0 values → Written o out (Ok count) out'
 written-accepted o out e l q = promise-accepted length itself o out e l q

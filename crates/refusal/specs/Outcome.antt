@@ -1,6 +1,5 @@
 -- What a call comes to, by document 01: refused, or accepted with what it gives.
-use Rattle.std.specs.Prelude.{ℕ, cond, List, [], ltb}
-use Rattle.std.proofs.Math.Option.{Option, none, some}
+use Rattle.std.specs.Prelude.{ℕ, cond, List, [], ltb, Option, None, Some, Result, Ok, Err}
 use Rattle.refusal.specs.declared.Reason.{Reason}
 use Rattle.refusal.specs.declared.Reason.TheVariants.{NoRoom}
 use Rattle.refusal.specs.declared.Refusal.{Refusal}
@@ -14,11 +13,16 @@ pub data Outcome (A : Type 0) : Type 0 where
 
 -- with this number, block and place, and no causes
 abbrev pub refused_by : {A : Type 0} (number block place : ℕ) → Outcome A
-refused_by number block place = refused (record { number = number; block = block; place = place; causes = none })
+refused_by number block place = refused (record { number = number; block = block; place = place; causes = None })
 
 -- as this refusal says
 abbrev pub refused_with : {A : Type 0} → Refusal → Outcome A
 refused_with r = refused (why_of r)
+
+-- what an answer comes to: accepted with what it gives, or refused as its error says
+abbrev pub outcome_of : {A : Type 0} → Result A Refusal → Outcome A
+outcome_of (Ok given) = accepted given
+outcome_of (Err r) = refused_with r
 
 -- for this reason, at this place, in block 0
 abbrev pub refuse : {A : Type 0} (reason : Reason) (place : ℕ) → Outcome A
@@ -26,8 +30,8 @@ refuse reason place = refused_with (refusal_at reason place)
 
 -- at the first place that was found, if there is one, for the reason there
 abbrev pub refuse_there : {A : Type 0} (reason : (place : ℕ) → Reason) (found : Option ℕ) (otherwise : Outcome A) → Outcome A
-refuse_there reason none otherwise = otherwise
-refuse_there reason (some place) otherwise = refuse (reason place) place
+refuse_there reason None otherwise = otherwise
+refuse_there reason (Some place) otherwise = refuse (reason place) place
 
 -- the same, for one reason wherever it is
 abbrev pub refuse_first : {A : Type 0} (reason : Reason) (found : Option ℕ) (otherwise : Outcome A) → Outcome A

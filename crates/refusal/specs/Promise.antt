@@ -1,10 +1,9 @@
 -- What a call promises, by what it comes to. The contract of a call that refuses and is lent a buffer is made of two words: `Answers` and
 -- `Fills`. One that is lent none has an equation of its answer alone.
-use Rattle.std.specs.Prelude.{ℕ, ◌≡◌, List, length}
+use Rattle.std.specs.Prelude.{ℕ, ◌≡◌, List, length, Result}
+use Rattle.refusal.specs.declared.Refusal.{Refusal}
 use Rattle.lists.specs.Buffer.{put_at}
-use Rattle.refusal.specs.declared.Put.{Put}
-use Rattle.refusal.specs.declared.Put.TheVariants.{Count, Refused}
-use Rattle.refusal.specs.Outcome.{Outcome, accepted, refused_with, mapped, puts}
+use Rattle.refusal.specs.Outcome.{Outcome, mapped, puts, outcome_of}
 
 -- the answer is the outcome's: what a view makes of the refusal, or of a part of what is given
 abbrev pub Answers : {A B C : Type 0} (view : Outcome B → C) (pick : A → B) (o : Outcome A) (answer : C) → Type 0
@@ -18,11 +17,6 @@ Fills pick o out out' = out' ≡ put_at out 0 (puts (mapped pick o))
 abbrev pub itself : {A : Type 0} → A → A
 itself x = x
 
--- what a writer answers: the number of elements put
-abbrev pub put_answer : Put → Outcome ℕ
-put_answer (Count n) = accepted n
-put_answer (Refused r) = refused_with r
-
 -- what a writer promises: it answers r and leaves out' in the buffer that held out
-abbrev pub Written : (o : Outcome (List ℕ)) (out : List ℕ) (r : Put) (out' : List ℕ) → Type 0
-Written o out r out' = Answers itself length o (put_answer r) × Fills itself o out out'
+abbrev pub Written : (o : Outcome (List ℕ)) (out : List ℕ) (r : Result ℕ Refusal) (out' : List ℕ) → Type 0
+Written o out r out' = Answers itself length o (outcome_of r) × Fills itself o out out'

@@ -1,6 +1,6 @@
 -- Refusals (document 01, 'Refusal numbers').
 use Rattle.std.specs.Prelude.{ℕ}
-use Rattle.std.proofs.Math.Option.{Option, none, some}
+use Rattle.std.specs.Prelude.{Option, None, Some}
 use Rattle.refusal.specs.declared.Causes.{Causes}
 use Rattle.refusal.specs.declared.Reason.{Reason}
 use Rattle.refusal.specs.declared.Reason.TheVariants.{WrongSize, NoRoom, NoStart, CutShort, WrongCountdown, LostByte, WrongChecksum, WrongType, WrongAddresses, WrongTapHeader, WrongTapVersion, CutLongForm, NoTapForm, WrongLeader}
@@ -40,25 +40,25 @@ number_of WrongLeader = 14
 
 -- a lost place has two causes, copy one's and copy two's, and no other reason has any
 abbrev pub causes_of : Reason → Option Causes
-causes_of WrongSize = none
-causes_of NoRoom = none
-causes_of NoStart = none
-causes_of CutShort = none
-causes_of WrongCountdown = none
-causes_of (LostByte causes) = some causes
-causes_of WrongChecksum = none
-causes_of WrongType = none
-causes_of WrongAddresses = none
-causes_of WrongTapHeader = none
-causes_of WrongTapVersion = none
-causes_of CutLongForm = none
-causes_of NoTapForm = none
-causes_of WrongLeader = none
+causes_of WrongSize = None
+causes_of NoRoom = None
+causes_of NoStart = None
+causes_of CutShort = None
+causes_of WrongCountdown = None
+causes_of (LostByte causes) = Some causes
+causes_of WrongChecksum = None
+causes_of WrongType = None
+causes_of WrongAddresses = None
+causes_of WrongTapHeader = None
+causes_of WrongTapVersion = None
+causes_of CutLongForm = None
+causes_of NoTapForm = None
+causes_of WrongLeader = None
 
 -- where there are none both stand as 0
 abbrev pub or_none : Option Causes → Causes
-or_none none = record { one = 0; two = 0 }
-or_none (some causes) = causes
+or_none None = record { one = 0; two = 0 }
+or_none (Some causes) = causes
 
 -- why a call refuses, in these numbers
 pub record Why : Type 0 where

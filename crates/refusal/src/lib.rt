@@ -4,6 +4,8 @@
 ghost use Rattle.std.specs.Prelude.{◌≡◌};
 ghost use Rattle.refusal.specs.Refusal.{number_of, causes_of, or_none, refusal_at, in_block};
 
+use std::fmt;
+
 // Why a lost byte is bad, in copy one and in copy two: the first of its pairs that is wrong, 0 for the marker to 9 for the parity bit, or 10 where
 // none is wrong and the number of ones is even.
 #[derive(Clone, Copy)]
@@ -31,6 +33,42 @@ pub enum Reason {
     WrongLeader,
 }
 
+// The number that a reason is known by.
+impl From<Reason> for u32 {
+    ghost from_gives = { λ reason number. number ≡ number_of reason };
+
+    fn from(reason: Reason) -> u32 {
+        match reason {
+            Reason::WrongSize => 1,
+            Reason::NoRoom => 2,
+            Reason::NoStart => 3,
+            Reason::CutShort => 4,
+            Reason::WrongCountdown => 5,
+            Reason::LostByte(_) => 6,
+            Reason::WrongChecksum => 7,
+            Reason::WrongType => 8,
+            Reason::WrongAddresses => 9,
+            Reason::WrongTapHeader => 10,
+            Reason::WrongTapVersion => 11,
+            Reason::CutLongForm => 12,
+            Reason::NoTapForm => 13,
+            Reason::WrongLeader => 14,
+        }
+    }
+}
+
+impl Reason {
+    // The causes of a lost byte; both are 0 where the reason has none, as the interface for C has them.
+    pub fn causes(self) -> Causes
+        ensures { result ≡ or_none (causes_of self) }
+    {
+        match self {
+            Reason::LostByte(causes) => causes,
+            _ => Causes { one: 0, two: 0 },
+        }
+    }
+}
+
 // The block is 0 for a header or a lone block and 1 for a program file's data block. The place is 0 where the reason names none.
 #[derive(Clone, Copy)]
 pub struct Refusal {
@@ -39,76 +77,46 @@ pub struct Refusal {
     pub place: usize,
 }
 
-// What a writer answers, or a measure of what it would put: how many elements, or why none.
-#[derive(Clone, Copy)]
-pub enum Put {
-    Count(usize),
-    Refused(Refusal),
-}
+impl Refusal {
+    // A refusal that names block 0.
+    pub fn at(reason: Reason, place: usize) -> Refusal
+        ensures { result ≡ refusal_at reason place }
+    {
+        Refusal {
+            reason,
+            block: 0,
+            place,
+        }
+    }
 
-// The number that a reason is known by.
-pub fn number_of(reason: Reason) -> u32
-    ensures { result ≡ number_of reason }
-{
-    match reason {
-        Reason::WrongSize => 1,
-        Reason::NoRoom => 2,
-        Reason::NoStart => 3,
-        Reason::CutShort => 4,
-        Reason::WrongCountdown => 5,
-        Reason::LostByte(_) => 6,
-        Reason::WrongChecksum => 7,
-        Reason::WrongType => 8,
-        Reason::WrongAddresses => 9,
-        Reason::WrongTapHeader => 10,
-        Reason::WrongTapVersion => 11,
-        Reason::CutLongForm => 12,
-        Reason::NoTapForm => 13,
-        Reason::WrongLeader => 14,
+    // The same refusal, of another block.
+    pub fn in_block(self, block: u32) -> Refusal
+        ensures { result ≡ in_block block self }
+    {
+        Refusal { block, ..self }
     }
 }
 
-// The causes of a lost byte; both are 0 where the reason has none.
-pub fn causes_of(reason: Reason) -> Causes
-    ensures { result ≡ or_none (causes_of reason) }
-{
-    match reason {
-        Reason::WrongSize => Causes { one: 0, two: 0 },
-        Reason::NoRoom => Causes { one: 0, two: 0 },
-        Reason::NoStart => Causes { one: 0, two: 0 },
-        Reason::CutShort => Causes { one: 0, two: 0 },
-        Reason::WrongCountdown => Causes { one: 0, two: 0 },
-        Reason::LostByte(causes) => causes,
-        Reason::WrongChecksum => Causes { one: 0, two: 0 },
-        Reason::WrongType => Causes { one: 0, two: 0 },
-        Reason::WrongAddresses => Causes { one: 0, two: 0 },
-        Reason::WrongTapHeader => Causes { one: 0, two: 0 },
-        Reason::WrongTapVersion => Causes { one: 0, two: 0 },
-        Reason::CutLongForm => Causes { one: 0, two: 0 },
-        Reason::NoTapForm => Causes { one: 0, two: 0 },
-        Reason::WrongLeader => Causes { one: 0, two: 0 },
+// A reason by itself names block 0 and place 0.
+impl From<Reason> for Refusal {
+    ghost from_gives = { λ reason refusal. refusal ≡ refusal_at reason 0 };
+
+    fn from(reason: Reason) -> Refusal {
+        Refusal::at(reason, 0)
     }
 }
 
-// A refusal that names block 0.
-pub fn at(reason: Reason, place: usize) -> Refusal
-    ensures { result ≡ refusal_at reason place }
-{
-    Refusal {
-        reason,
-        block: 0,
-        place,
-    }
-}
+// As the programs print it: the number, the block and the place.
+impl fmt::Display for Refusal {
+    ghost use Rattle.std.specs.Prelude.{Some};
+    ghost use Rattle.refusal.specs.Shown.{shown};
 
-// The same refusal, of another block.
-pub fn in_block(r: Refusal, block: u32) -> Refusal
-    ensures { result ≡ in_block block r }
-{
-    let reason = r.reason;
-    Refusal {
-        reason,
-        block,
-        place: r.place,
+    ghost output = { λ refusal. Some (shown refusal) };
+
+    fn fmt<W: fmt::Write>(&self, f: &mut fmt::Formatter<W>) -> fmt::Result {
+        let number = u32::from(self.reason);
+        let block = self.block;
+        let place = self.place;
+        write!(f, "refused {number} {block} {place}")
     }
 }

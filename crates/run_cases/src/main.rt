@@ -4,10 +4,10 @@
 
 ghost use Rattle.std.specs.Prelude.{◌+◌, ◌≤◌, length};
 
-use block::BlockAnswer;
-use file::FileAnswer;
+use block::Extent;
+use file::Loaded;
 use header::Fields;
-use refusal::{Put, Refusal};
+use refusal::Refusal;
 use std::io;
 use std::io::Write;
 
@@ -49,7 +49,7 @@ fn largest(rt: &HostRuntime) -> io::Result<()> {
     let mut out = [0u8; 8192];
     say_put(rt, block::write_block(&payload, LEADER, &mut strip))?;
     say_block(rt, block::read_block(&strip, 0, 8192, &mut out))?;
-    if check::same(&payload, &out) {
+    if payload == out {
         println!(rt; "the payload written")
     } else {
         println!(rt; "another payload")
@@ -75,7 +75,8 @@ fn shorts_before(rt: &HostRuntime, shorts: usize) -> io::Result<()>
     let payload = [0x41u8; 1];
     let mut strip = [0u32; SMALL_STRIP];
     let mut out = [0u8; 1];
-    block::write_block(&payload, LEADER, &mut strip);
+    // There is room for it.
+    let _ = block::write_block(&payload, LEADER, &mut strip);
     let cut = LEADER - shorts;
     say_block(rt, block::read_block(&strip[cut..], 0, 1, &mut out))
 }
@@ -101,7 +102,7 @@ fn program_file(rt: &HostRuntime) -> io::Result<()> {
     say_file(rt, file::read_file(&strip, 0, &mut header, &mut out))?;
     rt.stdout().write_all(header::shown_name(&header))?;
     println!(rt)?;
-    if check::same(&bytes, &out) {
+    if bytes == out {
         println!(rt; "the bytes written")
     } else {
         println!(rt; "other bytes")
@@ -112,56 +113,37 @@ fn program_file(rt: &HostRuntime) -> io::Result<()> {
 fn spoil(strip: &mut [u32], at: usize)
     requires { at + 3 ≤ length strip.old }
 {
-    strip[at] = 0;
-    strip[at + 1] = 0;
-    strip[at + 2] = 0;
+    strip[at..at + 3].fill(0);
 }
 
 fn number_bytes(bytes: &mut [u8]) {
     let mut next: u8 = 0;
-    let mut i: usize = 0;
-    while i < bytes.len() {
-        bytes[i] = next;
+    for byte in bytes.iter_mut() {
+        *byte = next;
         next = if next < 250 { next + 1 } else { 0 };
-        i = i + 1;
     }
 }
 
-fn say_refusal(rt: &HostRuntime, r: Refusal) -> io::Result<()> {
-    let number = refusal::number_of(r.reason);
-    let block = r.block;
-    let place = r.place;
-    println!(rt; "refused {number} {block} {place}")
-}
-
-fn say_put(rt: &HostRuntime, answer: Put) -> io::Result<()> {
+fn say_put(rt: &HostRuntime, answer: Result<usize, Refusal>) -> io::Result<()> {
     match answer {
-        Put::Count(n) => println!(rt; "pulses put: {n}"),
-        Put::Refused(r) => say_refusal(rt, r),
+        Ok(n) => println!(rt; "pulses put: {n}"),
+        Err(refusal) => println!(rt; "{refusal}"),
     }
 }
 
-fn say_block(rt: &HostRuntime, answer: BlockAnswer) -> io::Result<()> {
+fn say_block(rt: &HostRuntime, answer: Result<Extent, Refusal>) -> io::Result<()> {
     match answer {
-        BlockAnswer::Accepted(e) => {
-            let n = e.n;
-            let start = e.start;
-            let end = e.end;
-            println!(rt; "n, start, end: {n} {start} {end}")
-        }
-        BlockAnswer::Refused(r) => say_refusal(rt, r),
+        Ok(Extent { n, start, end }) => println!(rt; "n, start, end: {n} {start} {end}"),
+        Err(refusal) => println!(rt; "{refusal}"),
     }
 }
 
-fn say_file(rt: &HostRuntime, answer: FileAnswer) -> io::Result<()> {
+fn say_file(rt: &HostRuntime, answer: Result<Loaded, Refusal>) -> io::Result<()> {
     match answer {
-        FileAnswer::Accepted(l) => {
-            let kind = l.fields.kind;
-            let start = l.fields.start;
-            let end = l.fields.end;
-            let stop = l.stop;
+        Ok(Loaded { fields, stop }) => {
+            let Fields { kind, start, end } = fields;
             println!(rt; "type, start, end, end of the data block: {kind} {start} {end} {stop}")
         }
-        FileAnswer::Refused(r) => say_refusal(rt, r),
+        Err(refusal) => println!(rt; "{refusal}"),
     }
 }

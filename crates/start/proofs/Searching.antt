@@ -5,7 +5,7 @@ use native.Mathlib.Omega.{arith}
 use mathlib.Core.Path.{◌≡◌, refl, sym, ap}
 use mathlib.Core.Bool.{Bool, true, false, not}
 use mathlib.Core.List.{List}
-use mathlib.Core.Option.{none, some}
+use Rattle.std.specs.Prelude.{None, Some}
 use borrow.Author.Tests.{not-false}
 use lib.ListN.{length, get_or}
 use Rattle.lists.specs.Places.{first_from, First}
@@ -30,34 +30,34 @@ module _ (f : ℕ → Bool) (at : ℕ) where
   last-passed zero h e = absurd (omega arith)
   last-passed (suc count) h e = let z : suc count - 1 ≡ count = omega arith in rw (z, rw z at e)
 
-  pub last-here : (count : ℕ) → 0 < count → f (at + (count - 1)) ≡ true → last_from f count at ≡ some (at + (count - 1))
+  pub last-here : (count : ℕ) → 0 < count → f (at + (count - 1)) ≡ true → last_from f count at ≡ Some (at + (count - 1))
   unfolding last_from
   last-here zero h e = absurd (omega arith)
   last-here (suc count) h e = let z : suc count - 1 ≡ count = omega arith in rw (z, rw z at e)
 
-  pub last-over : (count : ℕ) → count ≤ 0 → last_from f count at ≡ none
+  pub last-over : (count : ℕ) → count ≤ 0 → last_from f count at ≡ None
   unfolding last_from
   last-over zero h = refl
   last-over (suc count) h = absurd (omega arith)
 
   -- what is found is one of these numbers, and passes
-  pub some-last : (count p : ℕ) → last_from f count at ≡ some p → (at ≤ p) × (p < at + count) × (f p ≡ true)
+  pub some-last : (count p : ℕ) → last_from f count at ≡ Some p → (at ≤ p) × (p < at + count) × (f p ≡ true)
   unfolding last_from
   some-last zero p e = absurd (let z : ◌≡◌ {A = ℕ} 0 1 = cc in omega arith)
   some-last (suc count) p e = go (some-last count p) (f (at + count)) refl
     where
-      go : (last_from f count at ≡ some p → (at ≤ p) × (p < at + count) × (f p ≡ true)) → (t : Bool) → f (at + count) ≡ t
+      go : (last_from f count at ≡ Some p → (at ≤ p) × (p < at + count) × (f p ≡ true)) → (t : Bool) → f (at + count) ≡ t
           → (at ≤ p) × (p < at + suc count) × (f p ≡ true)
       go earlier true t = let z : at + count ≡ p = (let e' = rw t at e in cc) in (omega arith, omega arith, rw (← z) t)
       go earlier false t = let r = earlier (rw t at e) in (omega arith, omega arith, r.2)
 
   -- where none is found, none passes
-  none_last : (count : ℕ) → last_from f count at ≡ none → (i : ℕ) → at ≤ i → i < at + count → f i ≡ false
+  none_last : (count : ℕ) → last_from f count at ≡ None → (i : ℕ) → at ≤ i → i < at + count → f i ≡ false
   unfolding last_from
   none_last zero e i a b = absurd (omega arith)
   none_last (suc count) e i a b = go (λ e'. none_last count e' i a) (f (at + count)) refl (ℕ_discrete (at + count) i)
     where
-      go : (last_from f count at ≡ none → i < at + count → f i ≡ false) → (t : Bool) → f (at + count) ≡ t → Dec (at + count ≡ i) → f i ≡ false
+      go : (last_from f count at ≡ None → i < at + count → f i ≡ false) → (t : Bool) → f (at + count) ≡ t → Dec (at + count ≡ i) → f i ≡ false
       go r true t d = absurd (let z : ◌≡◌ {A = ℕ} 0 1 = (let e' = rw t at e in cc) in omega arith)
       go r false t (yes d) = rw (← d) t
       go r false t (no d) = r (rw t at e) (omega arith)
@@ -85,7 +85,7 @@ pub record Searching (cs : List Class) (from at : ℕ) : Type 0 where
 
 module _ {cs : List Class} {from at : ℕ} (u : Searching cs from at) where
   -- fewer than sixteen pulses are left
-  pub find_start-fewer : length cs < at + 16 → none ≡ start_of cs from
+  pub find_start-fewer : length cs < at + 16 → None ≡ start_of cs from
   find_start-fewer h = sym (start_of-nowhere (λ p s. u.passed p (omega (arith, byte_at-within cs p 0x89 s.first)) s))
 
   -- on just after a pulse that is not short
@@ -99,7 +99,7 @@ module _ {cs : List Class} {from at : ℕ} (u : Searching cs from at) where
   }
 
   -- one of the sixteen is not short
-  pub searching-not_short : {i : ℕ} → last_from (not_short cs) 16 at ≡ some i → Searching cs from (i + 1)
+  pub searching-not_short : {i : ℕ} → last_from (not_short cs) 16 at ≡ Some i → Searching cs from (i + 1)
   searching-not_short {i} e =
       let r = some-last (not_short cs) at 16 i e in
       searching-past i r.0 r.2 (λ p b s. u.passed p (omega arith) s)
@@ -113,16 +113,16 @@ module _ {cs : List Class} {from at : ℕ} (u : Searching cs from at) where
 
   module _ (count : ℕ) where
     -- it lasts to the end of the strip
-    pub find_start-run_lasts : length cs ≤ at + 16 + count → first_from (not_short cs) count (at + 16) ≡ none → none ≡ start_of cs from
+    pub find_start-run_lasts : length cs ≤ at + 16 + count → first_from (not_short cs) count (at + 16) ≡ None → None ≡ start_of cs from
     find_start-run_lasts long e = sym (start_of-nowhere (λ p s. run-over (none_first (not_short cs) count (at + 16) e) p (omega (arith, byte_at-within cs p 0x89 s.first)) s))
 
     -- it ends
-    module _ {end : ℕ} (e : first_from (not_short cs) count (at + 16) ≡ some end) where
+    module _ {end : ℕ} (e : first_from (not_short cs) count (at + 16) ≡ Some end) where
       run_ends : First (not_short cs) count (at + 16) end
       run_ends = some_first (not_short cs) count (at + 16) end e
 
       -- where fewer than twenty pulses are left
-      pub find_start-cut_short : length cs < end + 20 → none ≡ start_of cs from
+      pub find_start-cut_short : length cs < end + 20 → None ≡ start_of cs from
       find_start-cut_short h = sym (start_of-nowhere (λ p s. run-over run_ends.least p (omega (arith, byte_at-within cs p 0x89 s.first)) s))
 
       pub searching-other_byte : is_good 0x89 (byte_at cs end) ≡ false → Searching cs from (end + 1)
@@ -131,7 +131,7 @@ module _ {cs : List Class} {from at : ℕ} (u : Searching cs from at) where
         | no q ↦ run-over run_ends.least p (omega arith) s
       ])
 
-      pub find_start-found : last_from (not_short cs) 16 at ≡ none → is_good 0x89 (byte_at cs end) ≡ true → some end ≡ start_of cs from
+      pub find_start-found : last_from (not_short cs) 16 at ≡ None → is_good 0x89 (byte_at cs end) ≡ true → Some end ≡ start_of cs from
       find_start-found all b =
           let good = is_good-true 0x89 (byte_at cs end) b in
           let within = byte_at-within cs end 0x89 good in

@@ -4,7 +4,7 @@ use native.Mathlib.Omega.{arith}
 use mathlib.Core.Path.{◌≡◌, refl, sym, ap, ap₂, ◌∙◌}
 use mathlib.Core.Bool.{true, false, ◌&&◌}
 use mathlib.Core.List.{List, [], ◌∷◌}
-use mathlib.Core.Option.{Option, none, some}
+use Rattle.std.specs.Prelude.{Option, None, Some}
 use borrow.Author.Tests.{le-leb, leb-true}
 use lib.Dec.{leb}
 use lib.ListN.{length, get_or, replicate, length-take, length-drop, get_or-replicate}
@@ -70,7 +70,7 @@ module _ {cs : List Class} {from p : ℕ} where
 -- ---- The start is the smallest such place
 
 module _ {cs : List Class} {from : ℕ} where
-  pub start_of-first : {p : ℕ} → Start cs from p → ((i : ℕ) → i < p → Start cs from i → ⊥) → start_of cs from ≡ some p
+  pub start_of-first : {p : ℕ} → Start cs from p → ((i : ℕ) → i < p → Start cs from i → ⊥) → start_of cs from ≡ Some p
   unfolding start_of
   start_of-first {p} s least =
       let within : p + 20 ≤ length cs = byte_at-within cs p 0x89 s.first in
@@ -81,17 +81,17 @@ module _ {cs : List Class} {from : ℕ} where
         least = λ i _ h. is_start-fails (least i h);
       })
 
-  pub start_of-some : {p : ℕ} → start_of cs from ≡ some p → Start cs from p × ((i : ℕ) → i < p → Start cs from i → ⊥)
+  pub start_of-some : {p : ℕ} → start_of cs from ≡ Some p → Start cs from p × ((i : ℕ) → i < p → Start cs from i → ⊥)
   unfolding start_of
   start_of-some {p} e =
       let r = some_first (is_start cs from) (length cs) 0 p e in
       (is_start-start r.passes, λ i h s. (let l = r.least i (omega arith) h in let t = is_start-holds s in let z : ◌≡◌ {A = ℕ} 0 1 = cc in omega arith))
 
-  pub start_of-nowhere : ((p : ℕ) → Start cs from p → ⊥) → start_of cs from ≡ none
+  pub start_of-nowhere : ((p : ℕ) → Start cs from p → ⊥) → start_of cs from ≡ None
   unfolding start_of
   start_of-nowhere h = first-none (is_start cs from) (length cs) 0 (λ i _ _. is_start-fails (h i))
 
-  pub start_of-none : start_of cs from ≡ none → (p : ℕ) → Start cs from p → ⊥
+  pub start_of-none : start_of cs from ≡ None → (p : ℕ) → Start cs from p → ⊥
   unfolding start_of
   start_of-none e p s =
       let within : p + 20 ≤ length cs = byte_at-within cs p 0x89 s.first in
@@ -101,7 +101,7 @@ module _ {cs : List Class} {from : ℕ} where
       omega arith
 
 -- a `from` past the strip gives none
-pub start_of-past : (cs : List Class) (from : ℕ) → length cs ≤ from → start_of cs from ≡ none
+pub start_of-past : (cs : List Class) (from : ℕ) → length cs ≤ from → start_of cs from ≡ None
 start_of-past cs from h = start_of-nowhere (λ p s. let within = byte_at-within cs p 0x89 s.first in omega (arith, s.far))
 
 -- a start that is found is past `from`, and its byte lies on the strip
@@ -111,9 +111,9 @@ find_start-within cs from p e =
     let s = (start_of-some {cs = cs} {from = from} (found (start_of cs from) e)).0 in
     (s.far, byte_at-within cs p 0x89 s.first)
   where
-    found : (o : Option ℕ) → start_at o ≡ accepted p → o ≡ some p
-    found none q = absurd (let z : ◌≡◌ {A = ℕ} 0 1 = cc in omega arith)
-    found (some r) q = cc
+    found : (o : Option ℕ) → start_at o ≡ accepted p → o ≡ Some p
+    found None q = absurd (let z : ◌≡◌ {A = ℕ} 0 1 = cc in omega arith)
+    found (Some r) q = cc
 
 -- ---- Only short pulses between `from` and a good $89
 
@@ -128,7 +128,7 @@ shorts-before cs p far within short =
 -- then it is the start: no byte begins with a short pulse
 pub start_of-short : (cs : List Class) (from p : ℕ) → from + 16 ≤ p → ((i : ℕ) → p - 16 ≤ i → i < p → get_or cs i Noise ≡ Short)
     → ((i : ℕ) → from < i → i < p → get_or cs i Noise ≡ Short) → byte_at cs p ≡ Good 0x89
-    → start_of cs from ≡ some p
+    → start_of cs from ≡ Some p
 start_of-short cs from p far near short first =
     let within : p + 20 ≤ length cs = byte_at-within cs p 0x89 first in
     start_of-first

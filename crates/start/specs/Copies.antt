@@ -1,10 +1,9 @@
 -- Where the copies of a block lie (document 01, 'Blocks', and 'Reading a block', rule 2).
-use Rattle.std.specs.Prelude.{ℕ, ◌+◌, ◌*◌, cond, ltb}
+use Rattle.std.specs.Prelude.{ℕ, ◌+◌, ◌*◌, cond, ltb, Result, Err, Ok}
+use Rattle.refusal.specs.declared.Refusal.{Refusal}
 use Rattle.refusal.specs.declared.Reason.TheVariants.{CutShort}
 use Rattle.refusal.specs.Outcome.{Outcome, accepted, refuse, refused_with}
 use Rattle.start.specs.declared.Copies.{Copies}
-use Rattle.start.specs.declared.CopiesAnswer.{CopiesAnswer}
-use Rattle.start.specs.declared.CopiesAnswer.TheVariants.{Accepted, Refused}
 
 -- a copy of n payload bytes has n + 10 byte places
 abbrev pub copy_pulses : (n : ℕ) → ℕ
@@ -28,8 +27,3 @@ copies_of p n = record { one = p; two = copy_two p n; end = end_of p n }
 -- on a strip of that many pulses: refusal 4 where it ends before copy two does
 unfoldable pub locate_copies : (count p n : ℕ) → Outcome Copies
 locate_copies count p n = cond (ltb count (end_of p n)) (refuse CutShort p) (accepted (copies_of p n))
-
--- what is answered
-abbrev pub copies_answer : CopiesAnswer → Outcome Copies
-copies_answer (Accepted copies) = accepted copies
-copies_answer (Refused r) = refused_with r

@@ -1,6 +1,6 @@
 -- The start of a block (document 01, 'Reading a block', rule 1), on the classes of a strip.
-use Rattle.std.specs.Prelude.{ℕ, ◌+◌, ◌-◌, ◌≤◌, ◌≡◌, Bool, true, ◌&&◌, List, [], ◌∷◌, leb, length, replicate}
-use Rattle.std.proofs.Math.Option.{Option, none, some}
+use Rattle.std.specs.Prelude.{ℕ, ◌+◌, ◌-◌, ◌≤◌, ◌≡◌, Bool, true, ◌&&◌, List, [], ◌∷◌, leb, length, replicate, Option, None, Some}
+use Rattle.std.specs.Prelude.{Option, None, Some}
 use Rattle.lists.specs.Places.{first_from, part}
 use Rattle.refusal.specs.declared.Reason.TheVariants.{NoStart}
 use Rattle.refusal.specs.Outcome.{Outcome, accepted, refuse}
@@ -9,8 +9,6 @@ use Rattle.pulse.specs.declared.Class.TheVariants.{Short}
 use Rattle.pulse.specs.Pulse.{same}
 use Rattle.byte.specs.declared.ByteRead.TheVariants.{Good}
 use Rattle.byte.specs.Byte.{byte_at, is_good}
-use Rattle.start.specs.declared.Found.{Found}
-use Rattle.start.specs.declared.Found.TheVariants.{At, Nothing}
 
 unfoldable pub all_short : List Class → Bool
 all_short [] = true
@@ -32,16 +30,8 @@ start_of cs from = first_from (is_start cs from) (length cs) 0
 
 -- what the search comes to: refusal 3 where there is none
 abbrev pub start_at : Option ℕ → Outcome ℕ
-start_at none = refuse NoStart 0
-start_at (some p) = accepted p
+start_at None = refuse NoStart 0
+start_at (Some p) = accepted p
 
 unfoldable pub find_start : (cs : List Class) (from : ℕ) → Outcome ℕ
 find_start cs from = start_at (start_of cs from)
-
--- what is answered
-abbrev pub found_at : Found → Option ℕ
-found_at (At place) = some place
-found_at Nothing = none
-
-abbrev pub found_answer : Found → Outcome ℕ
-found_answer found = start_at (found_at found)

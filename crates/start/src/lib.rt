@@ -5,10 +5,11 @@
 #![tactic(auto)]
 
 ghost use Rattle.std.specs.Prelude.{◌+◌, ◌-◌, ◌≤◌, ◌≡◌, ltb, length};
+ghost use Rattle.refusal.specs.Outcome.{outcome_of};
 ghost use Rattle.lists.specs.Places.{first_from};
 ghost use Rattle.pulse.specs.Pulse.{classes};
-ghost use Rattle.start.specs.Start.{found_at, find_start, found_answer};
-ghost use Rattle.start.specs.Copies.{end_of, locate_copies, copies_answer};
+ghost use Rattle.start.specs.Start.{find_start, start_at};
+ghost use Rattle.start.specs.Copies.{end_of, locate_copies};
 ghost use Rattle.start.specs.private.Search.{not_short, last_from};
 
 use pulse::{Cycles, Thresholds};
@@ -32,13 +33,6 @@ pub const TRAILER_PULSES: usize = 1 + TRAILER_SHORTS;
 // The pulses of two copies without payload and of the trailer between them.
 const LEAST_PULSES: usize = 2 * byte::BYTE_PULSES * EXTRA_BYTES + TRAILER_PULSES;
 
-// What is looked for in a strip: its place, or none.
-#[derive(Clone, Copy)]
-pub enum Found {
-    At(usize),
-    Nothing,
-}
-
 // Where the copies of a block begin, and the place after copy two.
 #[derive(Clone, Copy)]
 pub struct Copies {
@@ -47,22 +41,16 @@ pub struct Copies {
     pub end: usize,
 }
 
-#[derive(Clone, Copy)]
-pub enum CopiesAnswer {
-    Accepted(Copies),
-    Refused(Refusal),
-}
-
 // Rule 2: where the copies of n payload bytes lie, on a strip of that many pulses. It refuses a strip that ends before copy two does.
-pub fn locate_copies(count: usize, start: usize, n: usize) -> CopiesAnswer
-    ensures { copies_answer result ≡ locate_copies count start n }
+pub fn locate_copies(count: usize, start: usize, n: usize) -> Result<Copies, Refusal>
+    ensures { outcome_of result ≡ locate_copies count start n }
 {
     if is_cut_short(count, start, n) {
-        return CopiesAnswer::Refused(refusal::at(Reason::CutShort, start));
+        return Err(Refusal::at(Reason::CutShort, start));
     }
     let copy = byte::BYTE_PULSES * (n + EXTRA_BYTES);
     let two = start + copy + TRAILER_PULSES;
-    CopiesAnswer::Accepted(Copies {
+    Ok(Copies {
         one: start,
         two,
         end: two + copy,
@@ -83,79 +71,62 @@ fn is_cut_short(count: usize, start: usize, n: usize) -> bool
     (rest - LEAST_PULSES) / (2 * byte::BYTE_PULSES) < n
 }
 
-// How many pulses the strip has from a place on.
-fn pulses_from(strip: &[u32], at: usize) -> usize
-    ensures { result ≡ length strip.now - at }
-{
-    if strip.len() < at {
-        0
-    } else {
-        strip.len() - at
-    }
-}
-
 // The last of the sixteen pulses from a place on that is not short.
-fn last_not_short(t: Thresholds, strip: &[u32], at: usize) -> Found
+fn last_not_short(t: Thresholds, strip: &[u32], at: usize) -> Option<usize>
     requires { at + 16 ≤ length strip.now }
-    ensures { found_at result ≡ last_from (not_short (classes t strip.now)) 16 at }
+    ensures { result ≡ last_from (not_short (classes t strip.now)) 16 at }
 {
-    let mut count = SYNC_SHORTS;
-    while 0 < count {
-        count = count - 1;
-        if !pulse::is_short(t, Cycles(strip[at + count])) {
-            return Found::At(at + count);
+    for i in (0..SYNC_SHORTS).rev() {
+        if !pulse::is_short(t, Cycles(strip[at + i])) {
+            return Some(at + i);
         }
     }
-    Found::Nothing
+    None
 }
 
 // The first pulse from a place on that is not short.
-fn first_not_short(t: Thresholds, strip: &[u32], at: usize) -> Found
-    ensures { found_at result ≡ first_from (not_short (classes t strip.now)) (length strip.now - at) at }
+fn first_not_short(t: Thresholds, strip: &[u32], at: usize) -> Option<usize>
+    ensures { result ≡ first_from (not_short (classes t strip.now)) (length strip.now - at) at }
 {
-    let mut i = at;
-    while i < strip.len() {
+    for i in at..strip.len() {
         if !pulse::is_short(t, Cycles(strip[i])) {
-            return Found::At(i);
+            return Some(i);
         }
-        i = i + 1;
     }
-    Found::Nothing
+    None
 }
 
 // Rule 1. The search looks at the sixteen pulses from `at` on, the last one first. A pulse that is not short rules out the sixteen places
 // after it, so the search goes on just after it. Where all sixteen are short, only the end of their run can be a start: no byte begins with
 // a short pulse. The look there goes over the pairs of $89 and ends at the first that does not fit.
-pub fn find_start(t: Thresholds, strip: &[u32], from: usize) -> Found
-    ensures { found_answer result ≡ find_start (classes t strip.now) from }
+pub fn find_start(t: Thresholds, strip: &[u32], from: usize) -> Option<usize>
+    ensures { start_at result ≡ find_start (classes t strip.now) from }
 {
     let mut at = from;
     'search: loop {
         'runs: loop {
-            if pulses_from(strip, at) < SYNC_SHORTS {
-                break 'search Found::Nothing;
+            if strip.len().saturating_sub(at) < SYNC_SHORTS {
+                break 'search None;
             }
-            let Found::At(last) = last_not_short(t, strip, at) else {
+            let Some(last) = last_not_short(t, strip, at) else {
                 break 'runs;
             };
             at = last + 1;
         }
-        let Found::At(end) = first_not_short(t, strip, at + SYNC_SHORTS) else {
-            break 'search Found::Nothing;
+        let Some(end) = first_not_short(t, strip, at + SYNC_SHORTS) else {
+            break 'search None;
         };
-        if pulses_from(strip, end) < byte::BYTE_PULSES {
-            break 'search Found::Nothing;
+        if strip.len().saturating_sub(end) < byte::BYTE_PULSES {
+            break 'search None;
         }
-        let mut i: usize = 0;
-        'look: loop {
-            if i == byte::PAIRS {
-                break 'search Found::At(end);
+        'look: {
+            for i in 0..byte::PAIRS {
+                let j = end + byte::PAIR_PULSES * i;
+                if !byte::pair_fits(t, SYNC_BYTE, i, Cycles(strip[j]), Cycles(strip[j + 1])) {
+                    break 'look;
+                }
             }
-            let j = end + byte::PAIR_PULSES * i;
-            if !byte::pair_fits(t, SYNC_BYTE, i, Cycles(strip[j]), Cycles(strip[j + 1])) {
-                break 'look;
-            }
-            i = i + 1;
+            break 'search Some(end);
         }
         at = end + 1;
     }

@@ -1,22 +1,27 @@
 -- Laws of the form that a duration is written in.
-use Prim.Native.Nat.{ℕ, ◌+◌, ◌-◌, ◌*◌, ◌/◌, ◌%◌, ◌≤◌, ◌<◌}
+use Prim.Native.Nat.{ℕ, ◌+◌, ◌*◌, ◌/◌, ◌%◌, ◌≤◌, ◌<◌}
 use native.Mathlib.Decide.{ℕ_discrete, dec_le}
 use native.Mathlib.Numerals.{add-one}
 use native.Mathlib.Omega.{arith}
 use mathlib.Core.Path.{◌≡◌, refl, sym, ap, ◌∙◌}
 use mathlib.Core.Logic.{◌⊎◌, inl, inr, ⊎_elim}
-use mathlib.Core.Bool.{true, cond, not, ◌&&◌}
+use mathlib.Core.Bool.{Bool, true, false, cond, not, ◌&&◌}
+use Rattle.std.specs.Prelude.{Option, None, Some, MatchOption}
+use Rattle.std.specs.Bool.{then_some}
+use Rattle.std.specs.Option.{is_some}
 use mathlib.Core.List.{List, [], ◌∷◌, ◌++◌, map, append_assoc}
 use borrow.Author.Tests.{eq-eqb, ne_eqb, le-leb, lt-leb}
 use lib.Dec.{eqb, leb}
-use lib.ListN.{length, drop, get_or, length-append, drop_of_length-le, take-append-drop}
-use lib.Seq.{drop-cons, drop-drop}
-use Rattle.lists.specs.Places.{part}
+use lib.ListN.{length, drop, get_or, length-append, drop_of_length-le}
+use lib.Seq.{drop-cons}
 use Rattle.lists.specs.Text.{low_first}
 use Rattle.lists.proofs.TextLaws.{length-low}
 use Rattle.pulse.specs.Units.{unit_cycles}
 use Rattle.tap.specs.Tap.{long_form, form_of, tap_data, has_no_form}
-use Rattle.tap.specs.private.Forms.{no_zeros, byte_units}
+use Rattle.pulse.specs.declared.Cycles.{Cycles}
+use Rattle.tap.specs.declared.forms.Form.{Form}
+use Rattle.tap.specs.declared.forms.Form.TheVariants.{Byte, Long}
+use Rattle.tap.specs.private.Forms.{no_zeros, byte_units, bytes_of}
 use Rattle.tap.proofs.GroupLaws.{no_zeros-cons}
 
 -- ---- One byte
@@ -113,27 +118,6 @@ module _ (d : ℕ) where
 
   -- ---- The length of a form
 
-  -- by the tests that `form_width` makes
-  module _ (v : ℕ) {u : ℕ} (e : u ≡ byte_units d) where
-    pub width-byte : (u ≡ 0 → ⊥) → 1 ≡ length (form_of v d)
-    width-byte n = sym (ap length (form_of-units v (λ z. n (e ∙ z))))
-
-    module _ (z : u ≡ 0) where
-      module _ (old : v ≡ 0) where
-        pub width-zero : d ≡ 2048 → 1 ≡ length (form_of v d)
-        width-zero q = sym (ap length (form_of-zero v (sym e ∙ z) old q))
-
-        pub width-missing : (d ≡ 2048 → ⊥) → 0 ≡ length (form_of v d)
-        width-missing n = sym (ap length (form_of-missing v (sym e ∙ z) old n))
-
-      module _ (new : v ≡ 0 → ⊥) where
-        pub width-long : d ≤ 16777215 → 4 ≡ length (form_of v d)
-        unfolding low_first
-        width-long h = sym (ap length (form_of-long v (sym e ∙ z) new h))
-
-        pub width-over : 16777215 < d → 0 ≡ length (form_of v d)
-        width-over h = sym (ap length (form_of-over v (sym e ∙ z) new h))
-
   module _ (v : ℕ) where
     -- a form has one byte, which counts units or is the zero byte of version 0, or the four of the long form, or there is none
     form_of-either : (form_of v d ≡ byte_units d ∷ []) ⊎ ((form_of v d ≡ 0 ∷ low_first 3 d) ⊎ (form_of v d ≡ []))
@@ -145,33 +129,52 @@ module _ (d : ℕ) where
       ]
     ]
 
-    -- so its length tells which
-    pub form_of-one : length (form_of v d) ≡ 1 → form_of v d ≡ byte_units d ∷ []
-    unfolding low_first
-    form_of-one l =
-        ⊎_elim (λ e. e) (λ w. ⊎_elim (λ e. absurd (let m = ap length e in omega arith)) (λ e. absurd (let m = ap length e in omega arith)) w) form_of-either
-
-    pub form_of-four : length (form_of v d) ≡ 4 → form_of v d ≡ 0 ∷ low_first 3 d
-    form_of-four l = ⊎_elim (λ e. absurd (let m = ap length e in omega arith)) (λ w. ⊎_elim (λ e. e) (λ e. absurd (let m = ap length e in omega arith)) w) form_of-either
-
-    pub form_of-none : (length (form_of v d) ≡ 1 → ⊥) → (length (form_of v d) ≡ 4 → ⊥) → form_of v d ≡ []
-    unfolding low_first
-    form_of-none m n = ⊎_elim (λ e. absurd (m (ap length e))) (λ w. ⊎_elim (λ e. absurd (n (ap length e))) (λ e. e) w) form_of-either
-
     pub width-form_of : length (form_of v d) ≤ 4
     unfolding low_first
     width-form_of = ⊎_elim (λ e. rw e (omega arith)) (λ w. ⊎_elim (λ e. rw e (omega arith)) (λ e. rw e (omega arith)) w) form_of-either
 
+-- ---- What the code answers
+
+-- the bytes of a form that a `match` finds
+pub bytes_found : {found form : Form} {bytes : List ℕ} → bytes_of (Some found) ≡ bytes → found ≡ form → bytes_of (Some form) ≡ bytes
+bytes_found e q = ap (λ f. bytes_of (Some f)) (sym q) ∙ e
+
+-- how long a form is, and whether there is one
+pub width-answered : (r : Option Form) {n : ℕ} {Answer : Form → Type 0} → MatchOption r (n ≡ 0) Answer → ((form : Form) → Answer form → n ≡ length (bytes_of (Some form)))
+    → n ≡ length (bytes_of r)
+width-answered None e wide = e
+width-answered (Some form) e wide = wide form e
+
+pub none-answered : (r : Option Form) (none : Bool) → is_some r ≡ not none → none ≡ eqb (length (bytes_of r)) 0
+unfolding low_first
+none-answered None true e = refl
+none-answered None false e = e
+none-answered (Some (Byte b)) true e = e
+none-answered (Some (Byte b)) false e = refl
+none-answered (Some (Long cycles)) true e = e
+none-answered (Some (Long cycles)) false e = refl
+
+bytes_then : (t : Bool) (form : Form) → bytes_of (then_some t form) ≡ cond t (bytes_of (Some form)) []
+bytes_then true form = refl
+bytes_then false form = refl
+
+module _ (d : Cycles) (v : ℕ) where
+  pub form-units : {u : ℕ} → u ≡ byte_units d.0 → 0 < u → u ∷ [] ≡ form_of v d.0
+  form-units e h = ap (λ n. n ∷ []) e ∙ sym (form_of-units d.0 v (λ z. omega arith))
+
+  module _ (none : 0 ≡ byte_units d.0) where
+    pub form-old : v ≡ 0 → {r : Option Form} → r ≡ then_some (eqb d.0 2048) (Byte 0) → bytes_of r ≡ form_of v d.0
+    form-old old e = ap bytes_of e ∙ bytes_then (eqb d.0 2048) (Byte 0) ∙ sym (form_of-other d.0 v (sym none) ∙ rw (eq-eqb v 0 old))
+
+    pub form-new : (v ≡ 0 → ⊥) → {r : Option Form} → r ≡ then_some (leb d.0 16777215) (Long d) → bytes_of r ≡ form_of v d.0
+    unfolding long_form
+    form-new new e = ap bytes_of e ∙ bytes_then (leb d.0 16777215) (Long d) ∙ sym (form_of-other d.0 v (sym none) ∙ rw (ne_eqb v 0 new))
+
 -- ---- tap_data
 
--- the durations from place i to place i' have these forms
-pub record FormsBetween (v : ℕ) (ds : List ℕ) (i i' : ℕ) (forms : List ℕ) : Type 0 where
-  pub within : i' ≤ length ds
-  pub bytes : tap_data v (drop i ds) ≡ forms ++ tap_data v (drop i' ds)
-
-pub tap_data-next : (v : ℕ) (ds : List ℕ) (i : ℕ) → i < length ds → FormsBetween v ds i (i + 1) (form_of v (get_or ds i 0))
+pub tap_data-next : (v : ℕ) (ds : List ℕ) (i : ℕ) → i < length ds → tap_data v (drop i ds) ≡ form_of v (get_or ds i 0) ++ tap_data v (drop (i + 1) ds)
 unfolding tap_data
-tap_data-next v ds i h = record { within = omega arith; bytes = rw (drop-cons ds i 0 h, add-one) }
+tap_data-next v ds i h = rw (drop-cons ds i 0 h, add-one)
 
 pub tap_data-over : (v : ℕ) (ds : List ℕ) (i : ℕ) → length ds ≤ i → tap_data v (drop i ds) ≡ []
 unfolding tap_data
@@ -182,11 +185,12 @@ unfolding tap_data
 tap_data-append v [] ys = refl
 tap_data-append v (x ∷ xs) ys = rw (tap_data-append v xs ys, append_assoc)
 
-pub tap_data-part : (v : ℕ) (ds : List ℕ) (i end : ℕ) → i ≤ end → end ≤ length ds → FormsBetween v ds i end (tap_data v (part ds i (end - i)))
-tap_data-part v ds i end h w =
-    let e = tap_data-append v (part ds i (end - i)) (drop (end - i) (drop i ds)) in
-    let q : i + (end - i) ≡ end = omega arith in
-    record { within = w; bytes = rw (take-append-drop (end - i) (drop i ds), drop-drop, q) at e }
+-- a group in front of those left
+pub tap_data-group : (v : ℕ) (left group later : List ℕ) → left ≡ group ++ later → tap_data v left ≡ tap_data v group ++ tap_data v later
+tap_data-group v left group later e = ap (tap_data v) e ∙ tap_data-append v group later
+
+pub tap_data-none : (v : ℕ) (left : List ℕ) → length left ≡ 0 → tap_data v left ≡ []
+tap_data-none v left e = tap_data-over v left 0 (omega arith)
 
 -- durations that all have the one-byte form
 pub tap_data-units : (v : ℕ) (ds : List ℕ) → no_zeros (map byte_units ds) ≡ true → tap_data v ds ≡ map byte_units ds

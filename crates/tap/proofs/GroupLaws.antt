@@ -2,14 +2,13 @@
 use Prim.Native.Nat.{ℕ, zero, suc, ◌+◌, ◌≤◌, ◌<◌}
 use native.Mathlib.Numerals.{add-one}
 use native.Mathlib.Omega.{arith}
-use mathlib.Core.Path.{◌≡◌, refl, sym, ap, ◌∙◌}
+use mathlib.Core.Path.{◌≡◌, refl, sym, ap, ap₂, ◌∙◌}
 use mathlib.Core.Bool.{Bool, true, false, not, ◌&&◌}
 use mathlib.Core.List.{List, ◌∷◌, map}
 use lib.Dec.{eqb}
 use lib.ListN.{length, drop, get_or, set, length-map, drop_of_length-le, get_or-map}
 use lib.Seq.{sets, drop-cons}
 use Rattle.lists.proofs.BoolLaws.{and-true}
-use Rattle.lists.proofs.LoopLaws.{Copied, copy-next, put-done}
 use Rattle.lists.proofs.PlaceLaws.{get_or-within}
 use Rattle.tap.specs.private.Forms.{no_zeros}
 
@@ -53,9 +52,15 @@ module _ (f : ℕ → ℕ) (xs : List ℕ) where
   pub get_or-mapped : (i : ℕ) → i < length xs → get_or (map f xs) i 0 ≡ f (get_or xs i 0)
   get_or-mapped i h = get_or-within (map f xs) i 0 (f 0) (rw length-map h) ∙ get_or-map f xs i 0
 
-  module _ (before : List ℕ) (at : ℕ) {out : List ℕ} {i : ℕ} (u : Copied before at (map f xs) out i) where
-    pub copy-mapped-next : {v : ℕ} → i < length xs → v ≡ f (get_or xs i 0) → Copied before at (map f xs) (set out (at + i) v) (i + 1)
-    copy-mapped-next h e = rw (e, ← (get_or-mapped i h)) (copy-next before at (map f xs) u (rw length-map h))
+-- a value put, and those left after it
+pub mapped-next : {A B : Type 0} (f : A → B) (xs : List A) (out : List B) (at i : ℕ) {x : A} {y : B} → i < length xs → x ≡ get_or xs i x → y ≡ f x
+    → sets (set out (at + i) y) (at + (i + 1)) (map f (drop (i + 1) xs)) ≡ sets out (at + i) (map f (drop i xs))
+mapped-next f xs out at i {x} {y} h e q =
+    let place : at + (i + 1) ≡ suc (at + i) = omega arith in
+    let next : i + 1 ≡ suc i = omega arith in
+    let left : drop i xs ≡ x ∷ drop (suc i) xs = drop-cons xs i x h ∙ ap (λ a. a ∷ drop (suc i) xs) (sym e) in
+    ap₂ (λ p j. sets (set out (at + i) y) p (map f (drop j xs))) place next ∙ ap (λ v. sets (set out (at + i) v) (suc (at + i)) (map f (drop (suc i) xs))) q
+    ∙ ap (λ l. sets out (at + i) (map f l)) (sym left)
 
-    pub copy-mapped-done : length xs ≤ i → out ≡ sets before at (map f xs)
-    copy-mapped-done h = put-done u (drop_of_length-le (map f xs) {i = i} (rw length-map h))
+pub mapped-done : {A B : Type 0} (f : A → B) (xs : List A) (out : List B) (p i : ℕ) → length xs ≤ i → out ≡ sets out p (map f (drop i xs))
+mapped-done f xs out p i h = ap (λ l. sets out p (map f l)) (sym (drop_of_length-le xs {i = i} h))

@@ -1,5 +1,7 @@
 -- Reading the data: what the loops keep, and what the calls come to.
 use Prim.Native.Nat.{ℕ, ◌+◌, ◌-◌, ◌≤◌, ◌<◌}
+use Rattle.tap.specs.declared.TapInfo.{TapInfo}
+use Rattle.std.specs.Prelude.{Result, Err, Ok}
 use native.Mathlib.Nat.{zero-add}
 use native.Mathlib.Decide.{ℕ_discrete, dec_le}
 use native.Mathlib.Omega.{arith}
@@ -12,20 +14,13 @@ use Rattle.lists.specs.Places.{part}
 use Rattle.lists.proofs.BufferLaws.{put-room, sets-append}
 use Rattle.refusal.specs.declared.Reason.TheVariants.{NoRoom, WrongTapHeader, CutLongForm}
 use Rattle.refusal.specs.declared.Refusal.{Refusal}
-use Rattle.refusal.specs.declared.Put.{Put}
-use Rattle.refusal.specs.declared.Put.TheVariants.{Count, Refused as CountRefused}
 use Rattle.refusal.specs.Refusal.{refusal_at}
-use Rattle.refusal.specs.Outcome.{Outcome, refused, accepted, refused_with, mapped, and_then, puts}
-use Rattle.refusal.specs.Promise.{put_answer}
+use Rattle.refusal.specs.Outcome.{Outcome, refused, accepted, refused_with, mapped, and_then, puts, outcome_of}
 use Rattle.refusal.proofs.OutcomeLaws.{cond-accepted, mapped-refused, mapped-accepted, if_room-no_room, if_room-room}
 use Rattle.refusal.proofs.PromiseLaws.{promise-refused}
-use Rattle.tap.specs.declared.TapAnswer.{TapAnswer}
-use Rattle.tap.specs.declared.TapAnswer.TheVariants.{Accepted, Refused}
-use Rattle.tap.specs.declared.header.VersionAnswer.{VersionAnswer}
-use Rattle.tap.specs.declared.header.VersionAnswer.TheVariants.{Version, Refused as WrongHeader}
 use Rattle.tap.specs.Reading.{wrong_letters, tap_version, durations_in, Tap, tap_with, info_of, durations_of, tap_of, fitting, read_tap, TapPromise}
 use Rattle.tap.specs.private.Forms.{no_zeros}
-use Rattle.tap.specs.private.Reader.{version_answer, read_durations, durations_from, Counted, Cut, Fillable, FilledTo}
+use Rattle.tap.specs.private.Reader.{read_durations, durations_from, Counted, Cut, Fillable, FilledTo}
 use Rattle.tap.proofs.DataLaws.{DurationsBetween, durations_from-byte, durations_from-long, length_run, durations_from-run, durations_from-cut, durations_from-over}
 use Rattle.tap.proofs.HeaderLaws.{wrong_letters-long}
 
@@ -120,18 +115,18 @@ module _ (bytes : List ℕ) where
 
 -- ---- What the reader comes to
 
-TapPromise-refused : (o : Outcome Tap) (out : List ℕ) {r s : Refusal} → o ≡ refused_with s → r ≡ s → TapPromise o out (Refused r) out
+TapPromise-refused : (o : Outcome Tap) (out : List ℕ) {r s : Refusal} → o ≡ refused_with s → r ≡ s → TapPromise o out (Err r) out
 TapPromise-refused o out e q = promise-refused info_of durations_of o out e (ap refused_with q)
 
-module _ (v : ℕ) (bytes out : List ℕ) {a : Put} (e : put_answer a ≡ mapped length (durations_in v 0 bytes)) where
-  pub read_durations-cut_long_form : {r : Refusal} → a ≡ CountRefused r → TapPromise (read_durations (length out) v bytes) out (Refused r) out
+module _ (v : ℕ) (bytes out : List ℕ) {a : Result ℕ Refusal} (e : outcome_of a ≡ mapped length (durations_in v 0 bytes)) where
+  pub read_durations-cut_long_form : {r : Refusal} → a ≡ Err r → TapPromise (read_durations (length out) v bytes) out (Err r) out
   unfolding read_durations
   read_durations-cut_long_form {r} q =
-      TapPromise-refused (read_durations (length out) v bytes) out {s = r} (ap (λ o. and_then (mapped (tap_with v) o) (fitting (length out))) (mapped-refused length (durations_in v 0 bytes) r (sym (ap put_answer q) ∙ e))) refl
+      TapPromise-refused (read_durations (length out) v bytes) out {s = r} (ap (λ o. and_then (mapped (tap_with v) o) (fitting (length out))) (mapped-refused length (durations_in v 0 bytes) r (sym (ap outcome_of q) ∙ e))) refl
 
-  module _ {count : ℕ} (q : a ≡ Count count) where
+  module _ {count : ℕ} (q : a ≡ Ok count) where
     durations_in-counted : (ds : List ℕ) × (durations_in v 0 bytes ≡ accepted ds) × (length ds ≡ count)
-    durations_in-counted = mapped-accepted length (durations_in v 0 bytes) (sym (ap put_answer q) ∙ e)
+    durations_in-counted = mapped-accepted length (durations_in v 0 bytes) (sym (ap outcome_of q) ∙ e)
 
     pub durations_in-sound : durations_in v 0 bytes ≡ accepted (puts (durations_in v 0 bytes))
     durations_in-sound = durations_in-counted.1 ∙ ap accepted (sym (ap puts durations_in-counted.1))
@@ -143,26 +138,26 @@ module _ (v : ℕ) (bytes out : List ℕ) {a : Put} (e : put_answer a ≡ mapped
     unfolding read_durations
     read_durations-fitting = ap (λ o. and_then (mapped (tap_with v) o) (fitting (length out))) durations_in-sound
 
-    pub read_durations-no_room : {r : Refusal} → length out < count → r ≡ refusal_at NoRoom 0 → TapPromise (read_durations (length out) v bytes) out (Refused r) out
+    pub read_durations-no_room : {r : Refusal} → length out < count → r ≡ refusal_at NoRoom 0 → TapPromise (read_durations (length out) v bytes) out (Err r) out
     unfolding fitting
     read_durations-no_room h = TapPromise-refused (read_durations (length out) v bytes) out (read_durations-fitting ∙ rw (if_room-no_room (length out) (length (puts (durations_in v 0 bytes))) _ (rw length-durations_in h)))
 
     pub read_durations-accepted : {out' : List ℕ} → count ≤ length out → out' ≡ sets out 0 (puts (durations_in v 0 bytes))
-        → TapPromise (read_durations (length out) v bytes) out (Accepted (record { version = v; count = count })) out'
+        → TapPromise (read_durations (length out) v bytes) out (Ok (record { version = v; count = count })) out'
     unfolding fitting
     read_durations-accepted h s =
         let l = length-durations_in in
         let f : read_durations (length out) v bytes ≡ accepted (tap_with v (puts (durations_in v 0 bytes))) = read_durations-fitting ∙ rw (if_room-room (length out) (length (puts (durations_in v 0 bytes))) _ (omega arith)) in
         rw f (ap (λ n. accepted (record { version = v; count = n })) (sym l), s ∙ put-room out 0 (puts (durations_in v 0 bytes)) (omega arith))
 
-module _ (file out : List ℕ) {h : VersionAnswer} (e : version_answer h ≡ tap_version file) where
-  pub read_tap-wrong_header : {r : Refusal} → h ≡ WrongHeader r → TapPromise (read_tap (length out) file) out (Refused r) out
+module _ (file out : List ℕ) {h : Result ℕ Refusal} (e : outcome_of h ≡ tap_version file) where
+  pub read_tap-wrong_header : {r : Refusal} → h ≡ Err r → TapPromise (read_tap (length out) file) out (Err r) out
   unfolding read_tap tap_of
   read_tap-wrong_header {r} q = TapPromise-refused (read_tap (length out) file) out {s = r} (rw (← e, q)) refl
 
-  module _ {v : ℕ} (q : h ≡ Version v) where
+  module _ {v : ℕ} (q : h ≡ Ok v) where
     tap_version-answered : tap_version file ≡ accepted v
-    tap_version-answered = sym e ∙ ap version_answer q
+    tap_version-answered = sym e ∙ ap outcome_of q
 
     pub tap_version-long : 20 ≤ length file
     unfolding tap_version
@@ -172,5 +167,5 @@ module _ (file out : List ℕ) {h : VersionAnswer} (e : version_answer h ≡ tap
     unfolding read_tap tap_of read_durations
     read_tap-read_durations = rw tap_version-answered
 
-    pub read_tap-sound_header : (r : TapAnswer) {out' : List ℕ} → TapPromise (read_durations (length out) v (part file 20 (length file - 20))) out r out' → TapPromise (read_tap (length out) file) out r out'
+    pub read_tap-sound_header : (r : Result TapInfo Refusal) {out' : List ℕ} → TapPromise (read_durations (length out) v (part file 20 (length file - 20))) out r out' → TapPromise (read_tap (length out) file) out r out'
     read_tap-sound_header r s = rw (read_tap-read_durations, ← (take_all (length file - 20) (drop 20 file) (rw length-drop (omega arith)))) s

@@ -1,11 +1,13 @@
 -- Reading what was written: the header gives the version, each form its duration, and with them the file what was lent to the writer.
 use Prim.Native.Nat.{ℕ, zero, suc, ◌+◌, ◌*◌, ◌^◌, ◌≤◌, ◌<◌}
+use Rattle.tap.specs.declared.TapInfo.{TapInfo}
+use Rattle.refusal.specs.declared.Refusal.{Refusal}
 use native.Mathlib.Decide.{ℕ_discrete, dec_le}
 use native.Mathlib.Omega.{arith}
 use mathlib.Core.Path.{◌≡◌, refl, sym, ap, ◌∙◌}
 use mathlib.Core.Bool.{false}
 use mathlib.Core.List.{List, [], ◌∷◌, ◌++◌}
-use mathlib.Core.Option.{none}
+use Rattle.std.specs.Prelude.{None, Result, Ok}
 use borrow.Author.Tests.{eq-eqb, le-ltb, eqb-false, ltb-false}
 use lib.Dec.{ltb}
 use lib.ListN.{length, take, drop, get_or}
@@ -16,13 +18,11 @@ use Rattle.lists.proofs.BufferLaws.{part-put, rest-front}
 use Rattle.lists.proofs.PlaceLaws.{none_first, first-none}
 use Rattle.lists.proofs.TextLaws.{length-low, from_low_lem, same-equal}
 use Rattle.refusal.specs.declared.Reason.TheVariants.{WrongSize, WrongTapVersion, NoTapForm}
-use Rattle.refusal.specs.declared.Put.TheVariants.{Count}
 use Rattle.refusal.specs.Refusal.{refusal_at}
 use Rattle.refusal.specs.Outcome.{Outcome, accepted, mapped}
 use Rattle.refusal.specs.Promise.{Written}
 use Rattle.refusal.proofs.OutcomeLaws.{cond-accepted, refuse_first-accepted, and_then-accepted, mapped-accepted, if_room-accepted, if_room-room}
 use Rattle.pulse.specs.Units.{unit_cycles}
-use Rattle.tap.specs.declared.TapAnswer.{TapAnswer}
 use Rattle.tap.specs.Tap.{letters, tap_header, form_of, tap_data, tap_file, wrong_version, has_no_form, first_without, data_of, put_file, write_tap}
 use Rattle.tap.specs.Reading.{wrong_letters, wrong_count, tap_version, durations_in, Tap, tap_with, tap_of, fitting, read_tap, TapPromise}
 use Rattle.tap.specs.Claim.{TapReturned, Writable, RoundTrip}
@@ -119,7 +119,7 @@ durations_in-tap_data v at (d ∷ ds) has =
 
 -- ---- The file
 
-module _ (v : ℕ) (ds : List ℕ) (few : length ds ≤ 1048576) (old : v ≤ 1) (has : first_without v ds ≡ none) where
+module _ (v : ℕ) (ds : List ℕ) (few : length ds ≤ 1048576) (old : v ≤ 1) (has : first_without v ds ≡ None) where
   tap_of-tap_file : tap_of (tap_file v (tap_data v ds)) ≡ accepted (tap_with v ds)
   unfolding tap_of
   tap_of-tap_file =
@@ -133,7 +133,7 @@ module _ (v : ℕ) (ds : List ℕ) (few : length ds ≤ 1048576) (old : v ≤ 1)
 record FileWritten (room v : ℕ) (ds bytes : List ℕ) : Type 0 where
   pub few : length ds ≤ 1048576
   pub old : v ≤ 1
-  pub has : first_without v ds ≡ none
+  pub has : first_without v ds ≡ None
   pub fits : length bytes ≤ room
   pub file : bytes ≡ tap_file v (tap_data v ds)
 
@@ -168,7 +168,7 @@ write_tap-writable room v ds s h =
 
 -- ---- The claim
 
-tap_returned : (v : ℕ) (ds out : List ℕ) → length ds ≤ length out → (r : TapAnswer) (out' : List ℕ) (o : Outcome Tap) → o ≡ accepted (tap_with v ds)
+tap_returned : (v : ℕ) (ds out : List ℕ) → length ds ≤ length out → (r : Result TapInfo Refusal) (out' : List ℕ) (o : Outcome Tap) → o ≡ accepted (tap_with v ds)
     → TapPromise o out r out' → TapReturned v ds out r out'
 tap_returned v ds out h r out' o e s =
     let t = rw e at s in
@@ -183,7 +183,7 @@ take-written : (file bytes : List ℕ) (count : ℕ) (file' : List ℕ) → leng
 take-written file bytes count file' l h e = rw (e, ← l) (part-put file 0 bytes (omega arith))
 
 -- what the writer put holds the version and the durations
-pub tap_of-written : (v : ℕ) (ds file : List ℕ) (count : ℕ) (file' : List ℕ) → Written (write_tap (length file) v ds) file (Count count) file'
+pub tap_of-written : (v : ℕ) (ds file : List ℕ) (count : ℕ) (file' : List ℕ) → Written (write_tap (length file) v ds) file (Ok count) file'
     → tap_of (take count file') ≡ accepted (tap_with v ds)
 tap_of-written v ds file count file' w =
     let m = mapped-accepted length (write_tap (length file) v ds) w.0 in

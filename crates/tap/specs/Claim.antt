@@ -1,15 +1,15 @@
 -- What holds between the TAP writer and the TAP reader (document 01, 'TAP files', and document 02, Q-4).
-use Rattle.std.specs.Prelude.{ℕ, ◌%◌, ◌≤◌, ◌<◌, ◌≡◌, false, not, ◌&&◌, List, eqb, leb, length, take, drop, get_or}
-use Rattle.refusal.specs.declared.Put.TheVariants.{Count}
-use Rattle.refusal.specs.Outcome.{accepted}
+use Rattle.std.specs.Prelude.{ℕ, ◌%◌, ◌≤◌, ◌<◌, ◌≡◌, false, not, ◌&&◌, List, eqb, leb, length, take, drop, get_or, Result, Ok}
+use Rattle.tap.specs.declared.TapInfo.{TapInfo}
+use Rattle.refusal.specs.declared.Refusal.{Refusal}
+use Rattle.refusal.specs.Outcome.{accepted, outcome_of}
 use Rattle.refusal.specs.Promise.{Written}
-use Rattle.tap.specs.declared.TapAnswer.{TapAnswer}
 use Rattle.tap.specs.Tap.{tap_data, tap_file, has_no_form, write_tap}
-use Rattle.tap.specs.Reading.{read_tap, tap_answer, TapPromise}
+use Rattle.tap.specs.Reading.{read_tap, TapPromise}
 
 -- the reader answered this version and the number of these durations, and put exactly them into the buffer that held out
-pub record TapReturned (version : ℕ) (durations out : List ℕ) (r : TapAnswer) (out' : List ℕ) : Type 0 where
-  pub answer : tap_answer r ≡ accepted (record { version = version; count = length durations })
+pub record TapReturned (version : ℕ) (durations out : List ℕ) (r : Result TapInfo Refusal) (out' : List ℕ) : Type 0 where
+  pub answer : outcome_of r ≡ accepted (record { version = version; count = length durations })
   pub put : take (length durations) out' ≡ durations
   pub rest : drop (length durations) out' ≡ drop (length durations) out
 
@@ -23,9 +23,9 @@ pub record RoundTrip : Type 0 where
   -- Reading what was written returns the version and the durations: for all that the writer was lent and accepted, the reader, lent the
   -- bytes that the writer put and room for the durations, answers and puts them. Writer and reader did what their contracts say.
   pub returned :
-      (version : ℕ) (durations file : List ℕ) (count : ℕ) (file' : List ℕ) → Written (write_tap (length file) version durations) file (Count count) file'
+      (version : ℕ) (durations file : List ℕ) (count : ℕ) (file' : List ℕ) → Written (write_tap (length file) version durations) file (Ok count) file'
       → (out : List ℕ) → length durations ≤ length out
-      → (r : TapAnswer) (out' : List ℕ) → TapPromise (read_tap (length out) (take count file')) out r out'
+      → (r : Result TapInfo Refusal) (out' : List ℕ) → TapPromise (read_tap (length out) (take count file')) out r out'
       → TapReturned version durations out r out'
   -- the writer accepts all writable durations for which there is room
   pub written :

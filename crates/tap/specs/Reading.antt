@@ -1,14 +1,13 @@
 -- Reading TAP files (document 01, 'TAP files', and document 02, Q-4).
-use Rattle.std.specs.Prelude.{ℕ, zero, suc, ◌+◌, ◌*◌, Bool, cond, not, ◌||◌, List, [], ◌∷◌, eqb, ltb, length, take, drop, get_or}
+use Rattle.std.specs.Prelude.{ℕ, zero, suc, ◌+◌, ◌*◌, Bool, cond, not, ◌||◌, List, [], ◌∷◌, eqb, ltb, length, take, drop, get_or, Result}
+use Rattle.refusal.specs.declared.Refusal.{Refusal}
 use Rattle.lists.specs.Places.{part}
 use Rattle.lists.specs.Text.{from_low, equal}
 use Rattle.refusal.specs.declared.Reason.TheVariants.{WrongTapHeader, WrongTapVersion, CutLongForm}
-use Rattle.refusal.specs.Outcome.{Outcome, accepted, refuse, refused_with, if_room, mapped, and_then}
+use Rattle.refusal.specs.Outcome.{Outcome, accepted, refuse, if_room, mapped, and_then, outcome_of}
 use Rattle.refusal.specs.Promise.{Answers, Fills, itself}
 use Rattle.pulse.specs.Units.{unit_cycles}
 use Rattle.tap.specs.declared.TapInfo.{TapInfo}
-use Rattle.tap.specs.declared.TapAnswer.{TapAnswer}
-use Rattle.tap.specs.declared.TapAnswer.TheVariants.{Accepted, Refused}
 use Rattle.tap.specs.Tap.{letters, zero_cycles, wrong_version}
 
 -- ---- The header
@@ -74,11 +73,6 @@ fitting room t = if_room room (length t.durations) (accepted t)
 unfoldable pub read_tap : (room : ℕ) (file : List ℕ) → Outcome Tap
 read_tap room file = and_then (tap_of file) (fitting room)
 
--- what the reader answers
-abbrev pub tap_answer : TapAnswer → Outcome TapInfo
-tap_answer (Accepted tape) = accepted tape
-tap_answer (Refused r) = refused_with r
-
 -- what the reader promises: it answers r and leaves out' in the buffer that held out, as the outcome says
-abbrev pub TapPromise : (o : Outcome Tap) (out : List ℕ) (r : TapAnswer) (out' : List ℕ) → Type 0
-TapPromise o out r out' = Answers itself info_of o (tap_answer r) × Fills durations_of o out out'
+abbrev pub TapPromise : (o : Outcome Tap) (out : List ℕ) (r : Result TapInfo Refusal) (out' : List ℕ) → Type 0
+TapPromise o out r out' = Answers itself info_of o (outcome_of r) × Fills durations_of o out out'

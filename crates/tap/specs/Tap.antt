@@ -1,6 +1,5 @@
 -- TAP files as written (document 01, 'TAP files', and document 02, Q-4).
-use Rattle.std.specs.Prelude.{ℕ, ◌/◌, ◌%◌, Bool, cond, ◌&&◌, List, [], ◌∷◌, ◌++◌, eqb, leb, ltb, length, get_or}
-use Rattle.std.proofs.Math.Option.{Option}
+use Rattle.std.specs.Prelude.{ℕ, ◌/◌, ◌%◌, Bool, cond, ◌&&◌, List, [], ◌∷◌, ◌++◌, eqb, leb, ltb, length, get_or, Option}
 use Rattle.lists.specs.Places.{first_from}
 use Rattle.lists.specs.Text.{ascii, low_first}
 use Rattle.refusal.specs.declared.Reason.TheVariants.{WrongSize, WrongTapVersion, NoTapForm}

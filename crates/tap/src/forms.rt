@@ -3,11 +3,11 @@
 //   u, not 0        u units of eight cycles
 //   0               in version 0: 2,048 cycles
 //   0, a, b, c      in version 1, the long form: as many cycles as the three bytes count, low first
-ghost use Rattle.std.specs.Prelude.{◌+◌, ◌≤◌, ◌<◌, ◌≡◌, length};
+ghost use Rattle.std.specs.Prelude.{◌+◌, ◌≤◌, ◌<◌, ◌≡◌, length, Some};
 ghost use Rattle.tap.specs.Tap.{form_of};
-ghost use Rattle.tap.specs.private.Forms.{lone_cycles, long_cycles, byte_units};
+ghost use Rattle.tap.specs.private.Forms.{lone_cycles, long_cycles, byte_units, bytes_of};
 
-use pulse::{Cycles, InUnits, Units};
+use pulse::{Cycles, Units};
 
 // What a zero byte stands for in version 0.
 const ZERO_CYCLES: Cycles = Cycles(2048);
@@ -26,9 +26,10 @@ pub fn lone_cycles(b: u8) -> Cycles
     ensures { result.0 ≡ lone_cycles b }
 {
     if b == 0 {
-        return ZERO_CYCLES;
+        ZERO_CYCLES
+    } else {
+        pulse::byte_cycles(b)
     }
-    pulse::byte_cycles(b)
 }
 
 // What the long form at a place stands for.
@@ -39,12 +40,13 @@ pub fn long_cycles(bytes: &[u8], i: usize) -> Cycles
     Cycles(lists::from_low(&bytes[i + 1..i + LONG_BYTES]))
 }
 
-// The units of a duration that one byte counts; 0 where it has no such form.
+// The units of a duration that one byte counts; 0 where it has no such form. An Option is slower here, by a quarter of a tape's writing: the
+// compiler then makes no one mask of the tests.
 pub fn byte_units(duration: Cycles) -> Units
     ensures value { result.0 ≡ byte_units duration.0 }
     ensures fits { result.0 < 256 }
 {
-    let InUnits::Whole(units) = pulse::units_of(duration) else {
+    let Some(units) = pulse::units_of(duration) else {
         return Units(0);
     };
     if units.0 <= MOST_BYTE_UNITS.0 {
@@ -53,21 +55,35 @@ pub fn byte_units(duration: Cycles) -> Units
     Units(0)
 }
 
-// How many bytes a duration is written in; 0 where it has no form. The writer adds these up, in 32 bits.
-pub fn form_width(version: u8, duration: Cycles) -> u32
-    ensures { result ≡ length (form_of version duration.0) }
+// What a duration is written as: one byte, which counts units or is the zero byte of version 0, or the long form.
+#[derive(Clone, Copy)]
+pub enum Form {
+    Byte(u8),
+    Long(Cycles),
+}
+
+impl Form {
+    // How many bytes it has. The writer adds these up, in 32 bits.
+    pub fn width(self) -> u32
+        ensures { result ≡ length (bytes_of (Some self)) }
+    {
+        match self {
+            Form::Byte(_) => 1,
+            Form::Long(_) => LONG_BYTES as u32,
+        }
+    }
+}
+
+// The form of a duration, where it has one.
+pub fn form_of(version: u8, duration: Cycles) -> Option<Form>
+    ensures { bytes_of result ≡ form_of version duration.0 }
 {
-    if byte_units(duration).0 != 0 {
-        return 1;
+    let units = byte_units(duration);
+    if units.0 != 0 {
+        return Some(Form::Byte(units.0 as u8));
     }
     if version == 0 {
-        if duration.0 == ZERO_CYCLES.0 {
-            return 1;
-        }
-        return 0;
+        return (duration.0 == ZERO_CYCLES.0).then_some(Form::Byte(0));
     }
-    if duration.0 <= MOST_LONG_CYCLES.0 {
-        return LONG_BYTES as u32;
-    }
-    0
+    (duration.0 <= MOST_LONG_CYCLES.0).then_some(Form::Long(duration))
 }

@@ -3,9 +3,9 @@
 //   0 .. 11        12       13 .. 15  16 .. 19
 //   C64-TAPE-RAW   version  0, 0, 0   number of data bytes, low first
 ghost use Rattle.std.specs.Prelude.{◌≤◌, ◌≡◌, length};
+ghost use Rattle.refusal.specs.Outcome.{outcome_of};
 ghost use Rattle.tap.specs.Tap.{tap_header};
 ghost use Rattle.tap.specs.Reading.{wrong_letters, wrong_count, tap_version};
-ghost use Rattle.tap.specs.private.Reader.{version_answer};
 
 use super::{LAST_VERSION, TAP_HEADER_BYTES};
 use refusal::{Reason, Refusal};
@@ -21,30 +21,23 @@ const RESERVED_AT: usize = 13;
 // Where the number of data bytes stands.
 const COUNT_AT: usize = 16;
 
-// What the header comes to.
-#[derive(Clone, Copy)]
-pub enum VersionAnswer {
-    Version(u8),
-    Refused(Refusal),
-}
-
-pub fn tap_version(file: &[u8]) -> VersionAnswer
-    ensures { version_answer result ≡ tap_version file.now }
+pub fn tap_version(file: &[u8]) -> Result<u8, Refusal>
+    ensures { outcome_of result ≡ tap_version file.now }
 {
     if wrong_letters(file) {
-        return VersionAnswer::Refused(refusal::at(Reason::WrongTapHeader, 0));
+        return Err(Reason::WrongTapHeader.into());
     }
     let version = file[VERSION_AT];
     if LAST_VERSION < version {
-        return VersionAnswer::Refused(refusal::at(Reason::WrongTapVersion, 0));
+        return Err(Reason::WrongTapVersion.into());
     }
     if wrong_count(file) {
-        return VersionAnswer::Refused(refusal::at(Reason::WrongTapHeader, 0));
+        return Err(Reason::WrongTapHeader.into());
     }
-    VersionAnswer::Version(version)
+    Ok(version)
 }
 
-// Whether there are fewer than 20 bytes, or other letters in front.
+// Whether there are fewer than 20 bytes, or other letters in front. `==` on slices is a call that takes more stack than the interface for C states.
 fn wrong_letters(file: &[u8]) -> bool
     ensures { result ≡ wrong_letters file.now }
 {
@@ -72,9 +65,6 @@ pub fn tap_header(version: u8, n: u32) -> [u8; TAP_HEADER_BYTES]
 {
     let mut header = HEADER;
     header[VERSION_AT] = version;
-    header[COUNT_AT] = lists::low_byte(n, 0);
-    header[COUNT_AT + 1] = lists::low_byte(n, 1);
-    header[COUNT_AT + 2] = lists::low_byte(n, 2);
-    header[COUNT_AT + 3] = lists::low_byte(n, 3);
+    header[COUNT_AT..].copy_from_slice(&n.to_le_bytes());
     header
 }

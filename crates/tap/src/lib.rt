@@ -17,12 +17,12 @@ ghost use Rattle.refusal.specs.Promise.{Written};
 ghost use Rattle.tap.specs.Tap.{write_tap};
 ghost use Rattle.tap.specs.Reading.{read_tap, TapPromise};
 
-use header::VersionAnswer;
-use refusal::{Put, Reason, Refusal};
+use refusal::{Reason, Refusal};
 
 // The bytes before the data.
 pub const TAP_HEADER_BYTES: usize = 20;
 
+// A version is 0 or 1. An enum would be no plainer: the file and the definitions have a number.
 const LAST_VERSION: u8 = 1;
 
 const MOST_DURATIONS: usize = 1_048_576;
@@ -34,41 +34,26 @@ pub struct TapInfo {
     pub count: usize,
 }
 
-// What the TAP reader answers.
-#[derive(Clone, Copy)]
-pub enum TapAnswer {
-    Accepted(TapInfo),
-    Refused(Refusal),
-}
-
 // Reads a TAP file: puts its durations, and answers its version and how many they are. It refuses a header that is cut short or wrong, a
 // version above 1, a long form that is cut short and an output that is too short.
-pub fn read_tap(file: &[u8], out: &mut [u32]) -> TapAnswer
+pub fn read_tap(file: &[u8], out: &mut [u32]) -> Result<TapInfo, Refusal>
     ensures { TapPromise (read_tap (length out.old) file.now) out.old result out.new }
 {
-    match header::tap_version(file) {
-        VersionAnswer::Refused(r) => TapAnswer::Refused(r),
-        VersionAnswer::Version(version) => reader::read_durations(
-            version,
-            &file[TAP_HEADER_BYTES..],
-            out,
-        ),
-    }
+    let version = header::tap_version(file)?;
+    reader::read_durations(version, &file[TAP_HEADER_BYTES..], out)
 }
 
 // Writes durations as a TAP file of this version, and answers the number of bytes put. It refuses more than 1,048,576 durations, a
 // version above 1, a duration that has no form in that version and an output that is too short.
-pub fn write_tap(durations: &[u32], version: u8, out: &mut [u8]) -> Put
+pub fn write_tap(durations: &[u32], version: u8, out: &mut [u8]) -> Result<usize, Refusal>
     ensures { Written (write_tap (length out.old) version durations.now) out.old result out.new }
 {
     if MOST_DURATIONS < durations.len() {
-        return Put::Refused(refusal::at(Reason::WrongSize, 0));
+        return Err(Reason::WrongSize.into());
     }
     if LAST_VERSION < version {
-        return Put::Refused(refusal::at(Reason::WrongTapVersion, 0));
+        return Err(Reason::WrongTapVersion.into());
     }
-    match writer::measure_forms(version, durations) {
-        Put::Refused(r) => Put::Refused(r),
-        Put::Count(n) => writer::put_file(version, durations, n, out),
-    }
+    let n = writer::measure_forms(version, durations)?;
+    writer::put_file(version, durations, n, out)
 }

@@ -2,10 +2,8 @@
 // docs/TESTING.md says what is known of the tool.
 #![tactic(auto)]
 
-ghost use Rattle.std.specs.Prelude.{◌≡◌, ◌≤◌, length};
-
 use std::fs::File;
-use std::io::{ErrorKind, Read, Write};
+use std::io::Write;
 use std::{env, io};
 
 // The length of '.tap', with which every name has to end and which is not printed.
@@ -23,14 +21,15 @@ fn main(rt: HostRuntime) -> io::Result<()> {
 
 // Prints the name of the file that an argument names, and its listing.
 fn list_argument(rt: &HostRuntime, path: &str) -> io::Result<()> {
-    let name = path.as_bytes();
-    if (name.len() < SUFFIX_BYTES) | (MOST_PATH < name.len()) {
+    if MOST_PATH < path.len() {
         return Ok(());
     }
-    let end = name.len() - SUFFIX_BYTES;
+    let Some((name, _)) = path.as_bytes().split_last_chunk::<SUFFIX_BYTES>() else {
+        return Ok(());
+    };
     let mut out = rt.stdout();
     out.write_all(b"== ")?;
-    out.write_all(&name[..end])?;
+    out.write_all(name)?;
     out.write_all(b"\n")?;
     match File::open(rt, path) {
         Ok(file) => list_file(rt, file),
@@ -41,27 +40,7 @@ fn list_argument(rt: &HostRuntime, path: &str) -> io::Result<()> {
 fn list_file(rt: &HostRuntime, mut file: File) -> io::Result<()> {
     let mut bytes = [0u8; listing::INPUT_ROOM];
     let mut text = [0u8; listing::MOST_TEXT];
-    let n = read_full(&mut file, &mut bytes);
+    let n = listing::read_input(&mut file, &mut bytes);
     let count = listing::list_tape(&bytes[..n], &mut text);
     rt.stdout().write_all(&text[..count])
-}
-
-// Reads until the buffer is full or the file ends, and answers how many bytes there are. A read that fails counts as the end of the file.
-fn read_full<R: Read>(input: &mut R, buffer: &mut [u8]) -> usize
-    ensures part { result ≤ length buffer.new }
-    ensures kept { length buffer.new ≡ length buffer.old }
-{
-    let mut n: usize = 0;
-    for _ in 0..u64::MAX {
-        if n == buffer.len() {
-            break;
-        }
-        match input.read(&mut buffer[n..]) {
-            Ok(0) => break,
-            Ok(count) => n += count,
-            Err(e) if e.kind() == ErrorKind::Interrupted => {}
-            Err(_) => break,
-        }
-    }
-    n
 }

@@ -1,10 +1,12 @@
 -- The totals with a strip added: what is refused, and that no sum is too large.
 use Prim.Native.Nat.{ℕ, zero, suc, ◌*◌, ◌≤◌, ◌<◌}
 use native.Mathlib.Omega.{arith}
-use mathlib.Core.Path.{◌≡◌, refl, ◌∙◌}
+use Rattle.std.proofs.lemmas.Bool.Decides.{nat_tests}
+use mathlib.Core.Path.{◌≡◌, refl, ap}
 use mathlib.Core.Bool.{Bool, true, false, ◌||◌}
+use Rattle.std.specs.List.{list_any}
 use mathlib.Core.List.{List, [], ◌∷◌}
-use borrow.Author.Tests.{ltb-false, leb-false}
+use borrow.Author.Tests.{ltb-false}
 use lib.Dec.{leb, ltb}
 use lib.ListN.{length, get_or, length-map}
 use Rattle.lists.proofs.BoolLaws.{or-false}
@@ -14,7 +16,6 @@ use Rattle.pulse.specs.declared.Thresholds.{Thresholds}
 use Rattle.pulse.specs.declared.Class.{Class}
 use Rattle.pulse.specs.declared.Class.TheVariants.{Short, Medium, Long, Noise}
 use Rattle.pulse.specs.Pulse.{class_of, classes}
-use Rattle.block.specs.declared.ByCause.{ByCause}
 use Rattle.block.specs.declared.Tally.{Tally}
 use Rattle.block.specs.Looking.{each_cause, cause_numbers, for_cause}
 use Rattle.block.proofs.LookingLaws.{for-most}
@@ -48,37 +49,30 @@ none_above [] e i = omega arith
 none_above (n ∷ ns) e zero = ltb-false most n (or-false (is_above n) (any_above ns) e).0
 none_above (n ∷ ns) e (suc i) = none_above ns (or-false (is_above n) (any_above ns) e).1 i
 
-or-none : (t : Bool) → t ≡ (t || false)
-or-none true = refl
-or-none false = refl
-
--- the eleven tests, one by one
-pub any-eleven : (b : ByCause) {r0 r1 r2 r3 r4 r5 r6 r7 r8 r9 r10 : Bool}
-    → r0 ≡ is_above b.marker → r1 ≡ is_above b.bit0 → r2 ≡ is_above b.bit1 → r3 ≡ is_above b.bit2 → r4 ≡ is_above b.bit3 → r5 ≡ is_above b.bit4
-    → r6 ≡ is_above b.bit5 → r7 ≡ is_above b.bit6 → r8 ≡ is_above b.bit7 → r9 ≡ is_above b.parity → r10 ≡ is_above b.ones
-    → (r0 || (r1 || (r2 || (r3 || (r4 || (r5 || (r6 || (r7 || (r8 || (r9 || r10)))))))))) ≡ any_above (cause_numbers b)
+pub above-any : (ns : List ℕ) → list_any is_above ns ≡ any_above ns
 unfolding any_above
-any-eleven b e0 e1 e2 e3 e4 e5 e6 e7 e8 e9 e10 = rw (e0, e1, e2, e3, e4, e5, e6, e7, e8, e9, e10 ∙ or-none (is_above b.ones))
+above-any [] = refl
+above-any (n ∷ ns) = ap (λ r. is_above n || r) (above-any ns)
+
+-- the tests of the strips, of seven counts and of eleven
+pub full-any : (t : Totals) {counts causes : Bool}
+    → counts ≡ any_above (t.shorts ∷ t.mediums ∷ t.longs ∷ t.noises ∷ t.one ∷ t.two ∷ t.lost ∷ []) → causes ≡ any_above (cause_numbers t.bad)
+    → (leb 1000 t.strips || counts || causes) ≡ is_full t
+unfolding any_above
+full-any t e f = rw (e, f) (grind (arith, nat_tests))
 
 not_full : (t : Totals) → is_full t ≡ false → Open t
 not_full t e =
     let all = or-false _ (any_above (cause_numbers t.bad)) e in
-    let whole = or-false (leb 1000 t.strips || (is_above t.shorts || is_above t.mediums || is_above t.longs || is_above t.noises)) _ all.0 in
-    let first = or-false (leb 1000 t.strips) _ whole.0 in
-    let four = or-false (is_above t.shorts || is_above t.mediums || is_above t.longs) (is_above t.noises) first.1 in
-    let three = or-false (is_above t.shorts || is_above t.mediums) (is_above t.longs) four.0 in
-    let two = or-false (is_above t.shorts) (is_above t.mediums) three.0 in
-    let last = or-false (is_above t.one || is_above t.two) (is_above t.lost) whole.1 in
-    let last-two = or-false (is_above t.one) (is_above t.two) last.0 in
     record {
-      strips = leb-false 1000 t.strips first.0;
-      shorts = ltb-false most t.shorts two.0;
-      mediums = ltb-false most t.mediums two.1;
-      longs = ltb-false most t.longs three.1;
-      noises = ltb-false most t.noises four.1;
-      one = ltb-false most t.one last-two.0;
-      two = ltb-false most t.two last-two.1;
-      lost = ltb-false most t.lost last.1;
+      strips = grind (arith, nat_tests);
+      shorts = grind (arith, nat_tests);
+      mediums = grind (arith, nat_tests);
+      longs = grind (arith, nat_tests);
+      noises = grind (arith, nat_tests);
+      one = grind (arith, nat_tests);
+      two = grind (arith, nat_tests);
+      lost = grind (arith, nat_tests);
       bad = none_above (cause_numbers t.bad) all.1;
     }
 

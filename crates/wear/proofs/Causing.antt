@@ -6,7 +6,7 @@ use mathlib.Core.Path.{◌≡◌, refl, sym, ap, ◌∙◌}
 use mathlib.Core.Logic.{◌⊎◌, inl, inr}
 use mathlib.Core.Bool.{true, false}
 use mathlib.Core.List.{List}
-use mathlib.Core.Option.{none}
+use Rattle.std.specs.Prelude.{None}
 use lib.ListN.{length}
 use Rattle.refusal.specs.Refusal.{Why, why_in}
 use Rattle.refusal.specs.Outcome.{Outcome, refused, accepted, mapped, of_block}
@@ -29,7 +29,7 @@ use Rattle.wear.proofs.Claims.{walks}
 told-refused : (k : ℕ) (o : Outcome BlockRead) (why : Why) → of_block k (mapped extent_of o) ≡ refused why
     → (inner : Why) × (o ≡ refused inner) × (why_in k inner ≡ why)
 told-refused k (refused inner) why e = (inner, refl, cc)
-told-refused k (accepted b) why e = absurd (let z : ◌≡◌ {A = ℕ} 0 1 = cc in omega arith)
+told-refused k (accepted b) why e = absurd cc
 
 module _ (cs : List Class) (at : Spot) (b : Block) (e : step_from cs at ≡ accepted b) where
   -- ---- The counts
@@ -87,7 +87,7 @@ module _ (cs : List Class) (at : Spot) (b : Block) (e : step_from cs at ≡ acce
       let told = i.tells.lost (ap (λ (w : Why). w.number) i.same ∙ six) in
       rw (← i.same) (lost-in cs at.from b.n (block_of at.trial) i.inner told)
 
-  others : (why : Why) → b.outcome ≡ refused why → (why.number ≡ 6 → ⊥) → why.causes ≡ none
+  others : (why : Why) → b.outcome ≡ refused why → (why.number ≡ 6 → ⊥) → why.causes ≡ None
   others why o six =
       let i = inner-told why o in
       sym (ap (λ (w : Why). w.causes) i.same) ∙ i.tells.others (λ s. six (sym (ap (λ (w : Why). w.number) i.same) ∙ s))

@@ -1,33 +1,33 @@
 -- The claims hold: `walks`.
 use Prim.Native.Nat.{ℕ, zero, suc, ◌+◌, ◌≤◌}
+use Rattle.block.specs.declared.Extent.{Extent}
+use Rattle.refusal.specs.declared.Refusal.{Refusal}
 use native.Mathlib.Decide.{dec_le}
 use native.Mathlib.Nat.{zero-add}
 use native.Mathlib.Omega.{arith}
 use mathlib.Core.Path.{◌≡◌, refl, sym, ap, ◌∙◌}
 use mathlib.Core.Bool.{Bool, true, false, cond, ◌||◌}
 use mathlib.Core.List.{List, [], ◌∷◌, ◌++◌}
-use mathlib.Core.Option.{Option, none, some}
+use Rattle.std.specs.Prelude.{Option, None, Some, Result, Ok}
 use lib.Dec.{ltb}
 use lib.ListN.{length}
 use Rattle.lists.specs.Places.{first_from}
 use Rattle.refusal.specs.declared.Causes.{Causes}
 use Rattle.refusal.specs.declared.Reason.TheVariants.{WrongSize, NoStart, WrongCountdown, LostByte, WrongChecksum}
 use Rattle.refusal.specs.Refusal.{refusal_at}
-use Rattle.refusal.specs.Outcome.{Outcome, refused, accepted, refuse, refuse_there, refuse_first, mapped, of_block, and_then}
+use Rattle.refusal.specs.Outcome.{Outcome, refused, accepted, refuse, refuse_there, refuse_first, mapped, of_block, and_then, outcome_of}
 use Rattle.refusal.proofs.OutcomeLaws.{cond-accepted, and_then-accepted, if_room-accepted, mapped-accepted, of_block-accepted}
 use Rattle.pulse.specs.declared.Class.{Class}
 use Rattle.start.specs.Start.{start_of, start_at, find_start}
 use Rattle.start.specs.Copies.{copy_two, end_of}
 use Rattle.start.proofs.CopiesLaws.{locate_copies-cut_short, locate_copies-within}
-use Rattle.block.specs.declared.BlockAnswer.{BlockAnswer}
 use Rattle.block.specs.Block.{wrong_size}
-use Rattle.block.specs.Reading.{is_miscounted, is_lost, causes_at, values_at, sum_holds, BlockRead, extent_of, block_at, read_copies, read_at, read_from, read_block, block_answer, BlockPromise}
+use Rattle.block.specs.Reading.{is_miscounted, is_lost, causes_at, values_at, sum_holds, BlockRead, extent_of, block_at, read_copies, read_at, read_from, read_block, BlockPromise}
 use Rattle.block.specs.Looking.{counted}
 use Rattle.block.proofs.ReadingLaws.{read_block-room, read_at-accepted}
 use Rattle.block.proofs.LookingLaws.{tally-whole, look-within, look-cut_short}
 use Rattle.header.specs.Header.{fields_of}
 use Rattle.file.specs.declared.Loaded.{Loaded}
-use Rattle.file.specs.declared.FileAnswer.TheVariants.{Accepted}
 use Rattle.file.specs.File.{measure_data}
 use Rattle.file.specs.Reading.{loaded_of, file_read, read_data, read_file_by, read_file, FilePromise}
 use Rattle.file.proofs.FileLaws.{measure_data-accepted, measure_data-size}
@@ -47,10 +47,10 @@ use Rattle.wear.proofs.Walking.{one-most, two-most, lost-most}
 -- copies that lie on the strip are not refused with 4
 not-cut : (causes : ℕ → Causes) (k n : ℕ) (counted lost : Option ℕ) (holds : Bool) (b : BlockRead)
     → is_cut (of_block k (mapped extent_of (refuse_first WrongCountdown counted (refuse_there (λ i. LostByte (causes i)) lost (cond holds (accepted b) (refuse WrongChecksum n)))))) ≡ false
-not-cut causes k n (some i) lost holds b = refl
-not-cut causes k n none (some i) holds b = refl
-not-cut causes k n none none true b = refl
-not-cut causes k n none none false b = refl
+not-cut causes k n (Some i) lost holds b = refl
+not-cut causes k n None (Some i) holds b = refl
+not-cut causes k n None None true b = refl
+not-cut causes k n None None false b = refl
 
 counts : (cs : List Class) (at : Spot) (b : Block) → step_from cs at ≡ accepted b → counted b.tally ≡ cond (is_cut b.outcome) 0 (b.n + 1)
 unfolding try_at read_at read_copies
@@ -74,8 +74,8 @@ counts cs at b e =
 -- ---- The block reader
 
 read : (cs : List Class) (at : Spot) (b : Block) → step_from cs at ≡ accepted b → (out : List ℕ) → b.n ≤ length out
-    → (r : BlockAnswer) (out' : List ℕ) → BlockPromise (read_block cs (length out) at.from b.n) out r out'
-    → b.outcome ≡ of_block (block_of at.trial) (block_answer r)
+    → (r : Result Extent Refusal) (out' : List ℕ) → BlockPromise (read_block cs (length out) at.from b.n) out r out'
+    → b.outcome ≡ of_block (block_of at.trial) (outcome_of r)
 unfolding try_at read_from
 read cs at b e out room r out' promised =
     let t = step-told cs at b e in
@@ -138,7 +138,7 @@ two-told cs from n h d m e f =
     }
 
 file : (cs : List Class) (from : ℕ) (h b : List ℕ) (loaded : Loaded) (h' b' : List ℕ)
-    → FilePromise (read_file cs (length h) (length b) from) h b (Accepted loaded) h' b' → FileTold cs from loaded
+    → FilePromise (read_file cs (length h) (length b) from) h b (Ok loaded) h' b' → FileTold cs from loaded
 unfolding read_file_by read_data
 file cs from h b loaded h' b' promised =
     let a = mapped-accepted loaded_of (read_file cs (length h) (length b) from) promised.0 in
@@ -195,11 +195,11 @@ told-size cs at b e = let t = step-told cs at b e in rw (← t.tried) (next-size
 -- with such a size a step without a block is refused with 3
 step-over : (cs : List Class) (at : Spot) → wrong_size (size_of at.trial) ≡ false → ((b : Block) → step_from cs at ≡ accepted b → ⊥) → step_from cs at ≡ refuse NoStart 0
 unfolding step_from find_start
-step-over cs at size None-found = rw size (go (start_of cs at.from) refl)
+step-over cs at size none-found = rw size (go (start_of cs at.from) refl)
   where
     go : (o : Option ℕ) → start_of cs at.from ≡ o → mapped (try_at cs at.trial) (start_at o) ≡ refuse NoStart 0
-    go none e = refl
-    go (some p) e = absurd (None-found (try_at cs at.trial p) (rw (size, e)))
+    go None e = refl
+    go (Some p) e = absurd (none-found (try_at cs at.trial p) (rw (size, e)))
 
 ends-from : (cs : List Class) (k : ℕ) (at : Spot) → wrong_size (size_of at.trial) ≡ false → length cs ≤ at.from + k → step_from cs (spot_after k cs at) ≡ refuse NoStart 0
 unfolding spot_after
@@ -208,7 +208,7 @@ ends-from cs (suc k) at size h = go (ends-from cs k) (step_from cs at) refl
   where
     go : ((on : Spot) → wrong_size (size_of on.trial) ≡ false → length cs ≤ on.from + k → step_from cs (spot_after k cs on) ≡ refuse NoStart 0)
         → (o : Outcome Block) → step_from cs at ≡ o → step_from cs (next_or at o (λ b. spot_after k cs b.next)) ≡ refuse NoStart 0
-    go later (refused why) e = step-over cs at size (λ b f. let z : ◌≡◌ {A = ℕ} 0 1 = cc in omega arith)
+    go later (refused why) e = step-over cs at size (λ b f. cc)
     go later (accepted b) e = let t = step-told cs at b e in later b.next (told-size cs at b e) (omega (arith, t.after, t.before))
 
 -- ---- The report

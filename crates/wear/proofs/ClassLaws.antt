@@ -37,11 +37,15 @@ unfolding count_of
 count_most c [] = omega arith
 count_most c (x ∷ cs) = omega (arith, flag-lt (same x c), count_most c cs)
 
+-- so at most one of three tests holds
+at_most_one : (x : Class) {a b c : Bool} → a ≡ same x Short → b ≡ same x Medium → c ≡ same x Long → bool_byte a + bool_byte b + bool_byte c ≤ 1
+at_most_one x e f g = rw (e, f, g, flag-number (same x Short), flag-number (same x Medium), flag-number (same x Long)) (omega (arith, one-of-four x))
+
 -- ---- One pulse after the other
 
 -- what was counted before place i, with what is left, is all
 pub record Sorting (t : Thresholds) (strip : List ℕ) (shorts mediums longs i : ℕ) : Type 0 where
-  pub few : i ≤ length strip
+  pub few : shorts + mediums + longs ≤ i
   pub short : shorts + count_of Short (drop i (classes t strip)) ≡ count_of Short (classes t strip)
   pub medium : mediums + count_of Medium (drop i (classes t strip)) ≡ count_of Medium (classes t strip)
   pub long : longs + count_of Long (drop i (classes t strip)) ≡ count_of Long (classes t strip)
@@ -61,38 +65,22 @@ module _ (t : Thresholds) (strip : List ℕ) (i : ℕ) (h : i < length strip) wh
       in
       omega arith
 
-  -- a count with this pulse is not above the strip's length
-  pub count-few : (c : Class) (n : ℕ) {b : Bool} → b ≡ same (class_of t (get_or strip i 0)) c → n + count_of c (drop i (classes t strip)) ≡ count_of c (classes t strip)
-      → n + bool_byte b ≤ length strip
-  count-few c n e w = omega (arith, count_next c n e w, count_most c (classes t strip), length-map strip (class_of t))
-
   pub sorting-next : {shorts mediums longs : ℕ} {a b c : Bool} → Sorting t strip shorts mediums longs i
       → a ≡ same (class_of t (get_or strip i 0)) Short → b ≡ same (class_of t (get_or strip i 0)) Medium → c ≡ same (class_of t (get_or strip i 0)) Long
       → Sorting t strip (shorts + bool_byte a) (mediums + bool_byte b) (longs + bool_byte c) (i + 1)
-  sorting-next {shorts} {mediums} {longs} u a b c = record {
-    few = omega arith;
-    short = count_next Short shorts a u.short;
-    medium = count_next Medium mediums b u.medium;
-    long = count_next Long longs c u.long;
+  sorting-next {shorts} {mediums} {longs} u is-a is-b is-c = record {
+    few = omega (arith, u.few, at_most_one (class_of t (get_or strip i 0)) is-a is-b is-c);
+    short = count_next Short shorts is-a u.short;
+    medium = count_next Medium mediums is-b u.medium;
+    long = count_next Long longs is-c u.long;
   }
 
 module _ {t : Thresholds} {strip : List ℕ} {shorts mediums longs i : ℕ} (u : Sorting t strip shorts mediums longs i) where
-  -- no count is above the strip's length
-  pub sorting-few : shorts + mediums + longs ≤ length strip
-  sorting-few =
-      let l = length-map strip (class_of t) in
-      let w = classes-whole (classes t strip) in
-      let s = u.short in
-      let m = u.medium in
-      let k = u.long in
-      omega arith
-
-  pub sorting-done : length strip ≤ i
+  pub sorting-done : i ≡ length strip
       → ◌≡◌ {A = Pulses} (record { shorts = shorts; mediums = mediums; longs = longs; noises = length strip - shorts - mediums - longs }) (pulses_of (classes t strip))
   unfolding pulses_of count_of
   sorting-done h =
       let l = length-map strip (class_of t) in
-      let few = u.few in
       let j : i ≡ length (classes t strip) = omega arith in
       let z : drop i (classes t strip) ≡ [] = ap (λ k. drop k (classes t strip)) j ∙ drop-length (classes t strip) in
       let s : shorts ≡ count_of Short (classes t strip) = omega (arith, rw z at u.short) in

@@ -16,7 +16,7 @@ use Rattle.block.proofs.LookingLaws.{for-each, for-none, for-most, each_same}
 use Rattle.wear.specs.declared.Spot.{Spot}
 use Rattle.wear.specs.Walk.{Block, step_from, then_blocks, walk_for, blocks_from, blocks, beginning}
 use Rattle.wear.specs.Report.{total, one_of, two_of, lost_of, bad_of}
-use Rattle.wear.specs.private.Counts.{places_of, both_bad, BothFit}
+use Rattle.wear.specs.private.Counts.{places_of, both_bad, BothFit, both_tallies, TalliesFit}
 use Rattle.wear.proofs.WalkLaws.{Told, step-told, told-counted, told-bad, walk-unfolds}
 
 -- ---- A block has at most 8,193 places, and a strip no more blocks than pulses
@@ -54,16 +54,16 @@ bad-most cs cause = blocks-most cs (bad_of cause) 16386 (λ at b t. told-bad cs 
 
 -- ---- Step after step
 
-pub record Walking (cs : List Class) (one two lost : ℕ) (bad : ByCause) (at : Spot) : Type 0 where
-  pub ones : one + total one_of (blocks_from cs at) ≡ total one_of (blocks cs)
-  pub twos : two + total two_of (blocks_from cs at) ≡ total two_of (blocks cs)
-  pub losts : lost + total lost_of (blocks_from cs at) ≡ total lost_of (blocks cs)
-  pub bads : (cause : ℕ) → for_cause cause bad + total (bad_of cause) (blocks_from cs at) ≡ total (bad_of cause) (blocks cs)
+pub record Walking (cs : List Class) (sum : Tally) (at : Spot) : Type 0 where
+  pub ones : sum.one + total one_of (blocks_from cs at) ≡ total one_of (blocks cs)
+  pub twos : sum.two + total two_of (blocks_from cs at) ≡ total two_of (blocks cs)
+  pub losts : sum.lost + total lost_of (blocks_from cs at) ≡ total lost_of (blocks cs)
+  pub bads : (cause : ℕ) → for_cause cause sum.bad + total (bad_of cause) (blocks_from cs at) ≡ total (bad_of cause) (blocks cs)
 
 none-bad : (cause : ℕ) → for_cause cause no_bad ≡ 0
 none-bad cause = let z = for-most (λ _. 0) 0 (λ c. omega arith) cause in omega arith
 
-pub walking-begun : (cs : List Class) {bad : ByCause} → bad ≡ no_bad → Walking cs 0 0 0 bad beginning
+pub walking-begun : (cs : List Class) {bad : ByCause} → bad ≡ no_bad → Walking cs (record { one = 0; two = 0; lost = 0; bad = bad }) beginning
 walking-begun cs e = rw e (record { ones = omega arith; twos = omega arith; losts = omega arith; bads = λ cause. omega (arith, none-bad cause) })
 
 -- the number for a cause of bad bytes that were added
@@ -88,13 +88,13 @@ both-fit a b h = record {
   ones = h 10;
 }
 
-module _ {cs : List Class} {one two lost : ℕ} {bad : ByCause} {at : Spot} (u : Walking cs one two lost bad at) where
+module _ {cs : List Class} {sum : Tally} {at : Spot} (u : Walking cs sum at) where
   module _ (b : Block) (e : step_from cs at ≡ accepted b) where
     left : (count : Block → ℕ) → total count (blocks_from cs at) ≡ count b + total count (blocks_from cs b.next)
     unfolding total
     left count = ap (total count) (walk-unfolds cs at ∙ ap (λ (o : Outcome Block). then_blocks o (λ b. blocks_from cs b.next)) e)
 
-    pub walking-next : {bad' : ByCause} → bad' ≡ both_bad bad b.tally.bad → Walking cs (one + one_of b) (two + two_of b) (lost + lost_of b) bad' b.next
+    pub walking-next : {sum' : Tally} → sum' ≡ both_tallies sum b.tally → Walking cs sum' b.next
     walking-next e' =
         let ones = u.ones in
         let twos = u.twos in
@@ -103,31 +103,33 @@ module _ {cs : List Class} {one two lost : ℕ} {bad : ByCause} {at : Spot} (u :
           ones = omega (arith, left one_of);
           twos = omega (arith, left two_of);
           losts = omega (arith, left lost_of);
-          bads = λ cause. omega (arith, u.bads cause, left (bad_of cause), both-for bad b.tally.bad cause);
+          bads = λ cause. omega (arith, u.bads cause, left (bad_of cause), both-for sum.bad b.tally.bad cause);
         })
 
     -- no sum is too large
-    pub walking-few : length cs ≤ 1048576 → (one + one_of b ≤ 8590983168) × (two + two_of b ≤ 8590983168) × (lost + lost_of b ≤ 8590983168)
-    walking-few h =
-        let n = walking-next refl in
-        let ones = n.ones in
-        let twos = n.twos in
-        let losts = n.losts in
-        (omega (arith, one-most cs), omega (arith, two-most cs), omega (arith, lost-most cs))
-
-    pub walking-fits : length cs ≤ 1048576 → BothFit bad b.tally.bad
-    walking-fits h = both-fit bad b.tally.bad (λ cause. omega (arith, u.bads cause, left (bad_of cause), bad-most cs cause))
+    pub walking-fits : length cs ≤ 1048576 → TalliesFit sum b.tally
+    walking-fits h =
+        let ones = u.ones in
+        let twos = u.twos in
+        let losts = u.losts in
+        record {
+          one = omega (arith, left one_of, one-most cs);
+          two = omega (arith, left two_of, two-most cs);
+          lost = omega (arith, left lost_of, lost-most cs);
+          bad = both-fit sum.bad b.tally.bad (λ cause. omega (arith, u.bads cause, left (bad_of cause), bad-most cs cause));
+        }
 
     -- the place goes on
     pub walking_on : length cs - b.next.from < length cs - at.from
     walking_on = let t = step-told cs at b e in omega (arith, t.after, t.before, t.within)
 
-  pub walking-done : (r : Refusal) → refused_with r ≡ step_from cs at → ◌≡◌ {A = Tally} (record { one = one; two = two; lost = lost; bad = bad }) (places_of (blocks cs))
+  pub walking-done : (r : Refusal) → refused_with r ≡ step_from cs at → sum ≡ places_of (blocks cs)
   unfolding places_of total
   walking-done r e =
       let over : blocks_from cs at ≡ [] = walk-unfolds cs at ∙ ap (λ (o : Outcome Block). then_blocks o (λ b. blocks_from cs b.next)) (sym e) in
-      let a : one ≡ total one_of (blocks cs) = omega (arith, rw over at u.ones) in
-      let b : two ≡ total two_of (blocks cs) = omega (arith, rw over at u.twos) in
-      let c : lost ≡ total lost_of (blocks cs) = omega (arith, rw over at u.losts) in
-      let d = each_same (λ cause. for_cause cause bad) (λ cause. total (bad_of cause) (blocks cs)) (λ cause. omega (arith, rw over at (u.bads cause))) in
-      rw (a, b, c, ← d)
+      let a : sum.one ≡ total one_of (blocks cs) = omega (arith, rw over at u.ones) in
+      let b : sum.two ≡ total two_of (blocks cs) = omega (arith, rw over at u.twos) in
+      let c : sum.lost ≡ total lost_of (blocks cs) = omega (arith, rw over at u.losts) in
+      let d = each_same (λ cause. for_cause cause sum.bad) (λ cause. total (bad_of cause) (blocks cs)) (λ cause. omega (arith, rw over at (u.bads cause))) in
+      let same : ◌≡◌ {A = Tally} (record { one = sum.one; two = sum.two; lost = sum.lost; bad = sum.bad }) (places_of (blocks cs)) = rw (a, b, c, ← d) in
+      same

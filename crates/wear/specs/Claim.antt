@@ -1,19 +1,17 @@
 -- What holds of the walk and of the report (document 02, Q-1), and of the causes that they tell (Q-6).
-use Rattle.std.specs.Prelude.{ℕ, zero, suc, ◌+◌, ◌*◌, ◌≤◌, ◌<◌, ◌≡◌, Bool, true, false, cond, List, [], ◌∷◌, ◌++◌, eqb, length}
-use Rattle.std.proofs.Math.Option.{none}
+use Rattle.std.specs.Prelude.{ℕ, zero, suc, ◌+◌, ◌*◌, ◌≤◌, ◌<◌, ◌≡◌, Bool, true, false, cond, List, [], ◌∷◌, ◌++◌, eqb, length, None, Result, Ok}
+use Rattle.refusal.specs.declared.Refusal.{Refusal}
 use Rattle.refusal.specs.declared.Reason.TheVariants.{NoStart}
 use Rattle.refusal.specs.Refusal.{Why}
-use Rattle.refusal.specs.Outcome.{Outcome, refused, accepted, refuse, of_block, mapped, and_then}
+use Rattle.refusal.specs.Outcome.{Outcome, refused, accepted, refuse, of_block, mapped, and_then, outcome_of}
 use Rattle.pulse.specs.declared.Class.{Class}
 use Rattle.pulse.specs.declared.Class.TheVariants.{Short, Medium, Long, Noise}
 use Rattle.start.specs.Copies.{copy_two}
 use Rattle.block.specs.declared.Extent.{Extent}
-use Rattle.block.specs.declared.BlockAnswer.{BlockAnswer}
-use Rattle.block.specs.Reading.{read_block, block_answer, BlockPromise}
+use Rattle.block.specs.Reading.{read_block, BlockPromise}
 use Rattle.block.specs.Looking.{cause_numbers, no_bad, counted}
 use Rattle.block.specs.Claim.{LostTold, sum_of, spare_bad}
 use Rattle.file.specs.declared.Loaded.{Loaded}
-use Rattle.file.specs.declared.FileAnswer.TheVariants.{Accepted}
 use Rattle.file.specs.File.{data_bytes}
 use Rattle.file.specs.Reading.{read_file, FilePromise}
 use Rattle.wear.specs.declared.Spot.{Spot}
@@ -82,11 +80,11 @@ pub record Walks : Type 0 where
   -- What the walk tells of a block is what the block reader answers from that place with that n, lent enough room, but for the block's number.
   pub read : (cs : List Class) (at : Spot) (b : Block) → step_from cs at ≡ accepted b
       → (out : List ℕ) → b.n ≤ length out
-      → (r : BlockAnswer) (out' : List ℕ) → BlockPromise (read_block cs (length out) at.from b.n) out r out'
-      → b.outcome ≡ of_block (block_of at.trial) (block_answer r)
+      → (r : Result Extent Refusal) (out' : List ℕ) → BlockPromise (read_block cs (length out) at.from b.n) out r out'
+      → b.outcome ≡ of_block (block_of at.trial) (outcome_of r)
   -- A program file that the file reader accepts from a place is told as its two blocks, where the walk comes to that place to try a header.
   pub file : (cs : List Class) (from : ℕ) (h b : List ℕ) (loaded : Loaded) (h' b' : List ℕ)
-      → FilePromise (read_file cs (length h) (length b) from) h b (Accepted loaded) h' b' → FileTold cs from loaded
+      → FilePromise (read_file cs (length h) (length b) from) h b (Ok loaded) h' b' → FileTold cs from loaded
   -- Cut into steps anywhere, the walk is the same: after any number of steps, the blocks so far and those from there on are all.
   pub cut : (steps : ℕ) (cs : List Class) (at : Spot) → blocks_from cs at ≡ walk_for steps cs at ++ blocks_from cs (spot_after steps cs at)
   -- So are the totals after several strips.
@@ -107,6 +105,6 @@ pub record WalksCauses : Type 0 where
   pub lost : (cs : List Class) (at : Spot) (b : Block) (why : Why) → step_from cs at ≡ accepted b → b.outcome ≡ refused why → why.number ≡ 6
       → LostTold cs at.from b.n why
   pub others : (cs : List Class) (at : Spot) (b : Block) (why : Why) → step_from cs at ≡ accepted b → b.outcome ≡ refused why → (why.number ≡ 6 → ⊥)
-      → why.causes ≡ none
+      → why.causes ≡ None
   -- What a strip adds to a total of bad bytes is at most 16,386 for each of its pulses.
   pub bounded : (cs : List Class) (cause : ℕ) → total (bad_of cause) (blocks cs) ≤ 16386 * length cs

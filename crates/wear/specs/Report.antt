@@ -1,14 +1,12 @@
 -- The report over many strips (document 02, Q-1).
 use Rattle.std.specs.Prelude.{ℕ, ◌+◌, Bool, false, cond, ◌||◌, List, [], ◌∷◌, leb, ltb, length}
 use Rattle.refusal.specs.declared.Reason.TheVariants.{WrongSize}
-use Rattle.refusal.specs.Outcome.{Outcome, accepted, refuse, refused_with}
+use Rattle.refusal.specs.Outcome.{Outcome, accepted, refuse}
 use Rattle.pulse.specs.declared.Class.{Class}
 use Rattle.pulse.specs.declared.Class.TheVariants.{Short, Medium, Long, Noise}
 use Rattle.pulse.specs.Pulse.{same}
 use Rattle.block.specs.Looking.{each_cause, cause_numbers, for_cause}
 use Rattle.wear.specs.declared.Totals.{Totals}
-use Rattle.wear.specs.declared.ReportAnswer.{ReportAnswer}
-use Rattle.wear.specs.declared.ReportAnswer.TheVariants.{Accepted, Refused}
 use Rattle.wear.specs.Walk.{Block, blocks}
 
 -- how many pulses have a class
@@ -86,8 +84,3 @@ is_full t =
 -- refusal 1 where the totals are full or the strip has over 1,048,576 pulses
 unfoldable pub report_strip : Totals → (cs : List Class) → Outcome Totals
 report_strip t cs = cond (is_full t || ltb 1048576 (length cs)) (refuse WrongSize 0) (accepted (added t cs))
-
--- what is answered
-abbrev pub report_answer : ReportAnswer → Outcome Totals
-report_answer (Accepted totals) = accepted totals
-report_answer (Refused r) = refused_with r

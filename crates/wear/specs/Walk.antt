@@ -1,13 +1,14 @@
 -- The walk over the blocks of a strip (document 02, Q-1), on the classes of its pulses.
-use Rattle.std.specs.Prelude.{ℕ, zero, suc, ◌+◌, cond, List, [], ◌∷◌, length}
+use Rattle.std.specs.Prelude.{ℕ, zero, suc, ◌+◌, cond, List, [], ◌∷◌, length, Result, Err, Ok}
+use Rattle.refusal.specs.declared.Refusal.{Refusal}
 use Rattle.refusal.specs.declared.Reason.TheVariants.{WrongSize}
-use Rattle.refusal.specs.Outcome.{Outcome, refused, accepted, refuse, refused_with, of_block, mapped}
+use Rattle.refusal.specs.Outcome.{Outcome, refused, accepted, refuse, refused_with, of_block, mapped, outcome_of}
 use Rattle.pulse.specs.declared.Class.{Class}
 use Rattle.start.specs.Start.{find_start}
 use Rattle.block.specs.declared.Extent.{Extent}
 use Rattle.block.specs.declared.Tally.{Tally}
 use Rattle.block.specs.Block.{wrong_size}
-use Rattle.block.specs.Reading.{BlockRead, extent_of, read_at, block_answer}
+use Rattle.block.specs.Reading.{BlockRead, extent_of, read_at}
 use Rattle.block.specs.Looking.{look_at}
 use Rattle.header.specs.Header.{fields_of}
 use Rattle.file.specs.File.{measure_data}
@@ -15,8 +16,6 @@ use Rattle.wear.specs.declared.Trial.{Trial}
 use Rattle.wear.specs.declared.Trial.TheVariants.{Header, Data}
 use Rattle.wear.specs.declared.Spot.{Spot}
 use Rattle.wear.specs.declared.Tried.{Tried}
-use Rattle.wear.specs.declared.Step.{Step}
-use Rattle.wear.specs.declared.Step.TheVariants.{Found, Refused}
 
 -- ---- What is tried
 
@@ -82,11 +81,11 @@ step_from cs at =
 
 -- what is answered
 abbrev pub tried_block : Tried → Block
-tried_block t = record { n = t.n; start = t.start; outcome = block_answer t.answer; tally = t.tally; next = t.next }
+tried_block t = record { n = t.n; start = t.start; outcome = outcome_of t.answer; tally = t.tally; next = t.next }
 
-abbrev pub step_answer : Step → Outcome Block
-step_answer (Found t) = accepted (tried_block t)
-step_answer (Refused r) = refused_with r
+abbrev pub step_answer : Result Tried Refusal → Outcome Block
+step_answer (Ok t) = accepted (tried_block t)
+step_answer (Err r) = refused_with r
 
 -- ---- The walk
 

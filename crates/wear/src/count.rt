@@ -2,9 +2,9 @@
 ghost use Rattle.std.specs.Prelude.{◌≤◌, ◌≡◌, length};
 ghost use Rattle.pulse.specs.Pulse.{fixed, classes};
 ghost use Rattle.wear.specs.Walk.{blocks};
-ghost use Rattle.wear.specs.private.Counts.{pulses_of, places_of, both_bad, BothFit};
+ghost use Rattle.wear.specs.private.Counts.{pulses_of, places_of, both_bad, BothFit, both_tallies, TalliesFit};
 
-use super::{Spot, Step, Trial};
+use super::{Spot, Trial};
 use block::{ByCause, Tally};
 use pulse::{Cycles, Thresholds};
 
@@ -26,22 +26,20 @@ pub fn count_classes(strip: &[u32]) -> Pulses
     let mut shorts: u32 = 0;
     let mut mediums: u32 = 0;
     let mut longs: u32 = 0;
-    let mut i: usize = 0;
-    while i < strip.len() {
-        let pulse = Cycles(strip[i]);
-        shorts = shorts + pulse::is_short(t, pulse) as u32;
-        mediums = mediums + pulse::is_medium(t, pulse) as u32;
-        longs = longs + pulse::is_long(t, pulse) as u32;
-        i = i + 1;
+    for pulse in strip {
+        let pulse = Cycles(*pulse);
+        shorts += pulse::is_short(t, pulse) as u32;
+        mediums += pulse::is_medium(t, pulse) as u32;
+        longs += pulse::is_long(t, pulse) as u32;
     }
-    let short = shorts as usize;
-    let medium = mediums as usize;
-    let long = longs as usize;
+    let shorts = shorts as usize;
+    let mediums = mediums as usize;
+    let longs = longs as usize;
     Pulses {
-        shorts: short,
-        mediums: medium,
-        longs: long,
-        noises: strip.len() - short - medium - long,
+        shorts,
+        mediums,
+        longs,
+        noises: strip.len() - shorts - mediums - longs,
     }
 }
 
@@ -50,37 +48,37 @@ pub fn count_places(strip: &[u32]) -> Tally
     requires { length strip.now ≤ 1048576 }
     ensures { result ≡ places_of (blocks (classes fixed strip.now)) }
 {
-    let mut one: usize = 0;
-    let mut two: usize = 0;
-    let mut lost: usize = 0;
-    let mut bad = ByCause::none();
+    let mut sum = Tally {
+        one: 0,
+        two: 0,
+        lost: 0,
+        bad: ByCause::none(),
+    };
     let mut at = Spot {
         from: 0,
         trial: Trial::Header,
     };
-    loop {
-        match super::step_from(strip, at) {
-            Step::Refused(_) => {
-                return Tally {
-                    one,
-                    two,
-                    lost,
-                    bad,
-                };
-            }
-            Step::Found(b) => {
-                let tally = b.tally;
-                one = one + tally.one;
-                two = two + tally.two;
-                lost = lost + tally.lost;
-                bad = add_bad(bad, tally.bad);
-                at = b.next;
-            }
-        }
+    while let Ok(b) = super::step_from(strip, at) {
+        sum = add_tally(sum, b.tally);
+        at = b.next;
+    }
+    sum
+}
+
+// The places and the bad bytes of both.
+fn add_tally(a: Tally, b: Tally) -> Tally
+    requires { TalliesFit a b }
+    ensures { result ≡ both_tallies a b }
+{
+    Tally {
+        one: a.one + b.one,
+        two: a.two + b.two,
+        lost: a.lost + b.lost,
+        bad: add_bad(a.bad, b.bad),
     }
 }
 
-// The bad bytes of both.
+// The bad bytes of both. Field by field, since the fields are C's; a free function, since the type is of `block`, which never adds.
 pub fn add_bad(a: ByCause, b: ByCause) -> ByCause
     requires { BothFit a b }
     ensures { result ≡ both_bad a b }

@@ -5,18 +5,19 @@ mod count;
 mod walk;
 
 ghost use Rattle.std.specs.Prelude.{◌≡◌};
+ghost use Rattle.refusal.specs.Outcome.{outcome_of};
 ghost use Rattle.pulse.specs.Pulse.{fixed, classes};
 ghost use Rattle.wear.specs.Walk.{step_from, step_answer};
-ghost use Rattle.block.specs.Looking.{cause_numbers};
-ghost use Rattle.wear.specs.Report.{is_above, any_above, is_full, report_strip, report_answer};
+ghost use Rattle.wear.specs.Report.{any_above, is_full, report_strip};
 ghost use Rattle.wear.specs.private.Counts.{sums, SumsFit};
 
-use block::{BlockAnswer, ByCause, Tally};
+use block::{ByCause, Extent, Tally};
+use byte::CAUSES;
 use count::Pulses;
 use refusal::{Reason, Refusal};
 
 // What is tried at the next start: a header, which has 192 bytes, or the data block of a header that was read, with so many bytes. A data block
-// of 192 bytes is not a header.
+// of 192 bytes is not a header, and a header is not the absence of a data block: so this is no `Option`.
 #[derive(Clone, Copy)]
 pub enum Trial {
     Header,
@@ -36,16 +37,9 @@ pub struct Spot {
 pub struct Tried {
     pub n: usize,
     pub start: usize,
-    pub answer: BlockAnswer,
+    pub answer: Result<Extent, Refusal>,
     pub tally: Tally,
     pub next: Spot,
-}
-
-// One step of a walk: a block, or why there is none.
-#[derive(Clone, Copy)]
-pub enum Step {
-    Found(Tried),
-    Refused(Refusal),
 }
 
 // A walker holds the strip and where it stands on it.
@@ -63,7 +57,7 @@ impl<'a> Walker<'a> {
     }
 
     // Tries the block at the first start from where the walker stands. It refuses a data block of a wrong size and a strip with no start.
-    pub fn step(self) -> Step
+    pub fn step(self) -> Result<Tried, Refusal>
         ensures { step_answer result ≡ step_from (classes fixed self.entry.strip.now) self.entry.at }
     {
         walk::step_at(self.strip, self.at)
@@ -71,7 +65,7 @@ impl<'a> Walker<'a> {
 }
 
 // One step from any place of a strip, for callers that hold no walker.
-pub fn step_from(strip: &[u32], at: Spot) -> Step
+pub fn step_from(strip: &[u32], at: Spot) -> Result<Tried, Refusal>
     ensures { step_answer result ≡ step_from (classes fixed strip.now) at }
 {
     Walker::new(strip, at).step()
@@ -94,13 +88,6 @@ pub struct Totals {
     pub bad: ByCause,
 }
 
-// What the report answers. The totals handed in stay as they are where it refuses.
-#[derive(Clone, Copy)]
-pub enum ReportAnswer {
-    Accepted(Totals),
-    Refused(Refusal),
-}
-
 const MOST_STRIPS: u64 = 1000;
 
 const MOST_PULSES: usize = 1_048_576;
@@ -109,55 +96,61 @@ const MOST_TOTAL: u64 = 1_000_000_000_000;
 
 // Adds a strip to the totals. It refuses where these count 1,000 strips or more or one of them is above 1,000,000,000,000, and a strip of over
 // 1,048,576 pulses. A strip adds at most 1,048,576 to the count of a class, and at most 8,193 places, with 16,386 bytes, for each of its pulses.
-pub fn report(totals: Totals, strip: &[u32]) -> ReportAnswer
-    ensures { report_answer result ≡ report_strip totals (classes fixed strip.now) }
+pub fn report(totals: Totals, strip: &[u32]) -> Result<Totals, Refusal>
+    ensures { outcome_of result ≡ report_strip totals (classes fixed strip.now) }
 {
-    if is_full(totals) | (MOST_PULSES < strip.len()) {
-        return ReportAnswer::Refused(refusal::at(Reason::WrongSize, 0));
+    if totals.is_full() | (MOST_PULSES < strip.len()) {
+        return Err(Reason::WrongSize.into());
     }
     let pulses = count::count_classes(strip);
     let places = count::count_places(strip);
-    ReportAnswer::Accepted(add_strip(totals, pulses, places))
+    Ok(totals.plus(pulses, places))
 }
 
-// The totals with one strip more, its pulses, its places and its bad bytes.
-fn add_strip(t: Totals, pulses: Pulses, places: Tally) -> Totals
-    requires { SumsFit t pulses places }
-    ensures { result ≡ sums t pulses places }
-{
-    Totals {
-        strips: t.strips + 1,
-        shorts: t.shorts + pulses.shorts as u64,
-        mediums: t.mediums + pulses.mediums as u64,
-        longs: t.longs + pulses.longs as u64,
-        noises: t.noises + pulses.noises as u64,
-        one: t.one + places.one as u64,
-        two: t.two + places.two as u64,
-        lost: t.lost + places.lost as u64,
-        bad: count::add_bad(t.bad, places.bad),
+impl Totals {
+    // The totals with one strip more, its pulses, its places and its bad bytes.
+    fn plus(self, pulses: Pulses, places: Tally) -> Totals
+        requires { SumsFit self pulses places }
+        ensures { result ≡ sums self pulses places }
+    {
+        Totals {
+            strips: self.strips + 1,
+            shorts: self.shorts + pulses.shorts as u64,
+            mediums: self.mediums + pulses.mediums as u64,
+            longs: self.longs + pulses.longs as u64,
+            noises: self.noises + pulses.noises as u64,
+            one: self.one + places.one as u64,
+            two: self.two + places.two as u64,
+            lost: self.lost + places.lost as u64,
+            bad: count::add_bad(self.bad, places.bad),
+        }
+    }
+
+    // Whether no strip can be added to these totals.
+    fn is_full(&self) -> bool
+        ensures { result ≡ is_full self.now }
+    {
+        let counts: [u64; 7] = [
+            self.shorts,
+            self.mediums,
+            self.longs,
+            self.noises,
+            self.one,
+            self.two,
+            self.lost,
+        ];
+        let bad = self.bad;
+        let causes: [u64; CAUSES] = [
+            bad.marker, bad.bit0, bad.bit1, bad.bit2, bad.bit3, bad.bit4, bad.bit5, bad.bit6,
+            bad.bit7, bad.parity, bad.ones,
+        ];
+        (MOST_STRIPS <= self.strips) | any_above(&counts) | any_above(&causes)
     }
 }
 
-// Whether no strip can be added to these totals.
-fn is_full(t: Totals) -> bool
-    ensures { result ≡ is_full t }
+// Whether one of them is above the limit.
+fn any_above(counts: &[u64]) -> bool
+    ensures { result ≡ any_above counts.now }
 {
-    let classes = above(t.shorts) | above(t.mediums) | above(t.longs) | above(t.noises);
-    let places = above(t.one) | above(t.two) | above(t.lost);
-    (MOST_STRIPS <= t.strips) | classes | places | any_above(t.bad)
-}
-
-// Whether one of the totals of bad bytes is above the limit.
-fn any_above(bad: ByCause) -> bool
-    ensures { result ≡ any_above (cause_numbers bad) }
-{
-    let high = above(bad.bit6) | (above(bad.bit7) | (above(bad.parity) | above(bad.ones)));
-    let middle = above(bad.bit2) | (above(bad.bit3) | (above(bad.bit4) | (above(bad.bit5) | high)));
-    above(bad.marker) | (above(bad.bit0) | (above(bad.bit1) | middle))
-}
-
-fn above(total: u64) -> bool
-    ensures { result ≡ is_above total }
-{
-    MOST_TOTAL < total
+    counts.iter().any(|n| MOST_TOTAL < *n)
 }

@@ -1,54 +1,34 @@
--- What the reader's own enums stand for, and what it keeps of the places whose value is copy two's.
-use Rattle.std.specs.Prelude.{ℕ, ◌+◌, ◌≤◌, ◌<◌, ◌≡◌, Bool, true, false, List, eqb}
-use Rattle.std.proofs.Math.Option.{Option, none, some}
+-- What the parts of rules 3 to 5 come to, and what the reader keeps of the places whose value is copy two's.
+use Rattle.std.specs.Prelude.{ℕ, ◌+◌, ◌≤◌, ◌<◌, ◌≡◌, Bool, false, cond, List, eqb, Option, None, Some, Result}
 use Rattle.lists.specs.Places.{first_from}
-use Rattle.refusal.specs.declared.Causes.{Causes}
-use Rattle.refusal.specs.declared.Reason.TheVariants.{LostByte, WrongChecksum}
-use Rattle.refusal.specs.Outcome.{Outcome, accepted, refuse}
+use Rattle.refusal.specs.declared.Reason.TheVariants.{WrongCountdown, LostByte, WrongChecksum}
+use Rattle.refusal.specs.declared.Refusal.{Refusal}
+use Rattle.refusal.specs.Outcome.{Outcome, accepted, refuse, refuse_there, refuse_first, outcome_of}
 use Rattle.pulse.specs.declared.Class.{Class}
-use Rattle.byte.specs.declared.FrameRead.{FrameRead}
-use Rattle.byte.specs.declared.FrameRead.TheVariants.{Value, None}
-use Rattle.block.specs.declared.Extent.{Extent}
-use Rattle.block.specs.declared.rules.Source.{Source}
-use Rattle.block.specs.declared.rules.Source.TheVariants.{One, Two, Neither}
-use Rattle.block.specs.declared.rules.Check.{Check}
-use Rattle.block.specs.declared.rules.Check.TheVariants.{Sound, LostAt, WrongSum}
-use Rattle.block.specs.Reading.{Place, FromOne, FromTwo, Lost, is_lost, sum_holds, place_at}
+use Rattle.block.specs.Reading.{is_miscounted, is_lost, causes_at, sum_holds, place_at}
 use Rattle.block.specs.Looking.{is_from_two, places_from}
 use Rattle.block.specs.private.Flags.{flag_at, group_of}
 
--- where the value of a place comes from, without the causes of one that is lost
-abbrev pub source_of : Place → Source
-source_of (FromOne v) = One v
-source_of (FromTwo v) = Two v
-source_of (Lost causes) = Neither
-
--- the same, by the values of both copies
-abbrev pub source_in : (one two : FrameRead) → Source
-source_in (Value v) two = One v
-source_in None (Value v) = Two v
-source_in None None = Neither
-
 -- a frame has this value
-abbrev pub has_value : ℕ → FrameRead → Bool
-has_value v (Value w) = eqb w v
+abbrev pub has_value : ℕ → Option ℕ → Bool
+has_value v (Some w) = eqb w v
 has_value v None = false
 
--- the first lost place, if there is one; else whether the checksum holds, with the number of repaired places
-abbrev pub check_of : Option ℕ → Bool → (repaired : ℕ) → Check
-check_of (some place) holds repaired = LostAt place
-check_of none true repaired = Sound repaired
-check_of none false repaired = WrongSum
+-- ---- What is given, where a part of the rules holds
 
--- what that comes to, for a block that stands there, with the causes of its places
-abbrev pub check_answer : (causes : ℕ → Causes) → Check → Extent → Outcome Extent
-check_answer causes (LostAt place) extent = refuse (LostByte (causes place)) place
-check_answer causes WrongSum extent = refuse WrongChecksum extent.n
-check_answer causes (Sound repaired) extent = accepted extent
+-- rule 3
+abbrev pub countdown_checked : {A : Type 0} (cs : List Class) (one two : ℕ) (given : A) → Outcome A
+countdown_checked cs one two given = refuse_first WrongCountdown (first_from (is_miscounted cs one two) 9 0) (accepted given)
 
--- a place that is told as lost is one
-abbrev pub LostThere : (cs : List Class) (one two n : ℕ) → Check → Type 0
-LostThere cs one two n check = (i : ℕ) → check ≡ LostAt i → (i ≤ n) × (is_lost cs one two i ≡ true)
+-- rule 5, by whether it holds
+abbrev pub sum_checked : {A : Type 0} (holds : Bool) (n : ℕ) (given : A) → Outcome A
+sum_checked holds n given = cond holds (accepted given) (refuse WrongChecksum n)
+
+-- rules 4 and 5
+abbrev pub values_checked : {A : Type 0} (cs : List Class) (one two n : ℕ) (given : A) → Outcome A
+values_checked cs one two n given =
+    refuse_there (λ i. LostByte (causes_at cs one two i)) (first_from (is_lost cs one two) (n + 1) 0)
+    (sum_checked (sum_holds cs one two n) n given)
 
 -- ---- What is kept: the number of repaired places, and a flag for each group that has one
 
@@ -72,6 +52,6 @@ abbrev pub NoneLost : (cs : List Class) (one two n : ℕ) → Type 0
 NoneLost cs one two n = (i : ℕ) → i < n → is_lost cs one two i ≡ false
 
 -- what rules 4 and 5 say, and the row where no place is lost
-pub record Checked (cs : List Class) (one two n : ℕ) (check : Check) (row : List ℕ) : Type 0 where
-  pub says : check ≡ check_of (first_from (is_lost cs one two) (n + 1) 0) (sum_holds cs one two n) (repairs cs one two n)
-  pub flagged : first_from (is_lost cs one two) (n + 1) 0 ≡ none → Flagged cs one two n row
+pub record Checked (cs : List Class) (one two n : ℕ) (answer : Result ℕ Refusal) (row : List ℕ) : Type 0 where
+  pub says : outcome_of answer ≡ values_checked cs one two n (repairs cs one two n)
+  pub flagged : first_from (is_lost cs one two) (n + 1) 0 ≡ None → Flagged cs one two n row

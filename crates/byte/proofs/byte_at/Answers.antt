@@ -11,9 +11,9 @@ pub returns-then-strip-at-lt-BYTE_PULSES : goal.returns-then-strip-at-lt-BYTE_PU
 returns-then-strip-at-lt-BYTE_PULSES c =
     ap Bad c.first_wrong.ensures ∙ cut-there c.args.t c.args.strip.now c.args.at (omega arith) (omega arith)
 
-pub returns-in-Value : goal.returns-in-Value
-returns-in-Value c =
-    value_there c.args.t c.args.strip.now c.args.at _ (omega arith) (sym c.in-Value.is ∙ c.read_frame.ensures)
+pub returns-in-Some : goal.returns-in-Some
+returns-in-Some c =
+    value_there c.args.t c.args.strip.now c.args.at _ (omega arith) (sym c.in-Some.is ∙ c.read_frame.ensures)
 
 pub returns-in-None : goal.returns-in-None
 returns-in-None c =

@@ -9,14 +9,10 @@ pub returns-then-out-values : goal.returns-then-out-values
 returns-then-out-values c =
     write_bytes-no_room c.args.out.now c.args.values.now (omega arith) c.at.ensures
 
-pub put_twenty-requires : goal.put_twenty-requires
-unfolding quarters_from bits coded
-put_twenty-requires c = record { room = search rules; rows = refl }
-
 pub loop-i-preserved : goal.loop-i-preserved
 loop-i-preserved c =
-    (omega arith, BytesPut-next c.args.out.now c.args.values.now c.loop-i.invariant.1 c.loop-i-test.true c.put_twenty.ensures)
+    BytesPut-next c.args.out.now c.args.values.now c.loop-i.invariant c.loop-i-test.true c.put_byte.ensures
 
 pub returns : goal.returns
 returns c =
-    write_bytes-whole c.args.out.now c.args.values.now c.loop-i.invariant.1 c.loop-i-test.false (omega arith)
+    write_bytes-whole c.args.out.now c.args.values.now c.loop-i.invariant c.loop-i-test.false (omega arith)

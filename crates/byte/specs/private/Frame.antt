@@ -1,12 +1,10 @@
 -- How a frame is read at once: by the distances of its pulses above the short threshold.
-use Rattle.std.specs.Prelude.{ℕ, ◌+◌, ◌-◌, ◌*◌, ◌/◌, ◌%◌, ◌^◌, Bool, cond, ◌&&◌, ◌==◌, count_ones, nat_lt}
+use Rattle.std.specs.Prelude.{ℕ, ◌+◌, ◌-◌, ◌*◌, ◌/◌, ◌%◌, ◌^◌, Bool, cond, ◌&&◌, ◌==◌, count_ones, nat_lt, Option, None, Some}
 use Rattle.pulse.specs.declared.Thresholds.{Thresholds}
 use Rattle.pulse.specs.declared.Class.{Class}
 use Rattle.pulse.specs.declared.Class.TheVariants.{Short, Medium, Long, Noise}
 use Rattle.pulse.specs.Pulse.{cycles}
 use Rattle.byte.specs.declared.decoder.Bounds.{Bounds}
-use Rattle.byte.specs.declared.FrameRead.{FrameRead}
-use Rattle.byte.specs.declared.FrameRead.TheVariants.{Value, None}
 use Rattle.byte.specs.Byte.{is_odd, parity_bit}
 
 -- the distances of the thresholds; long, if it lies below medium, is as far as medium
@@ -28,12 +26,12 @@ class_in b pulse =
     (cond (nat_lt (distance_of b pulse) b.noise.0) Long Noise)
 
 -- the value by the word and whether all is sound that the word does not show: its first half has the value and then the parity bit
-unfoldable pub closed : (word : ℕ) (sound : Bool) → FrameRead
+unfoldable pub closed : (word : ℕ) (sound : Bool) → Option ℕ
 closed word sound =
     let first = word % 65536 / 2 in
     let second = word / 65536 / 2 in
     let value = first % 256 in
-    cond ((first + second == 511 && is_odd (count_ones value + first / 256)) && sound) (Value value) None
+    cond ((first + second == 511 && is_odd (count_ones value + first / 256)) && sound) (Some value) None
 
 -- ---- A byte whose value is known: what `pair_fits` looks for
 

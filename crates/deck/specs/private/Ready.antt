@@ -1,22 +1,28 @@
 -- What one pulse asks for, and what the functions for one phase leave.
-use Rattle.std.specs.Prelude.{ℕ, suc, ◌+◌, ◌-◌, ◌*◌, ◌<◌, ◌≤◌, ◌≡◌, Bool, true, false, ◌&&◌, ◌||◌, List, eqb}
+use Rattle.std.specs.Prelude.{ℕ, suc, ◌+◌, ◌-◌, ◌*◌, ◌<◌, ◌≤◌, ◌≡◌, Bool, true, false, cond, not, ◌&&◌, ◌||◌, eqb, leb, ltb, Option, None, Some}
 use Rattle.pulse.specs.declared.Class.{Class}
 use Rattle.byte.specs.declared.ByteRead.{ByteRead}
 use Rattle.byte.specs.declared.ByteRead.TheVariants.{Good}
 use Rattle.deck.specs.declared.Deck.{Deck}
+use Rattle.deck.specs.declared.state.Phase as own
 use Rattle.deck.specs.Frame.{fresh, take_pulse}
 use Rattle.deck.specs.Lead.{seek}
 use Rattle.deck.specs.Work.{fits, cause_byte, put_byte, get_byte}
 use Rattle.deck.specs.Judge.{no_checks}
 use Rattle.deck.specs.Step.{Phase, Seeking, InOne, Between, InTwo, Told, Standing, standing, placed, judged}
-use Rattle.deck.specs.Calls.{is_sound, lent, lent_of}
+use Rattle.deck.specs.Calls.{phase_of}
 
--- a sound state, buffers of these lengths that have room, and one pulse more can be counted
-pub record Ready (d : Deck) (work out : ℕ) : Type 0 where
-  pub sound : is_sound d ≡ true
-  pub going : eqb d.phase 4 ≡ false
-  pub room : fits d.n work out ≡ true
-  pub few : d.taken < 4294967295
+-- the phase that a value of the code's own enum stands for
+abbrev pub doing : own.Phase → Phase
+doing (own.Phase.Seeking matched) = Seeking matched
+doing (own.Phase.InOne start place heard frame) = InOne start place heard frame
+doing (own.Phase.Between start heard) = Between start heard
+doing (own.Phase.InTwo start place heard frame checks) = InTwo start place heard frame checks
+doing (own.Phase.Told start answer checks) = Told start answer checks
+
+-- the number with which a call with so many pulses is refused, before an answer
+unfoldable pub refusal_by : Deck → (count work out : ℕ) → Option ℕ
+refusal_by d count work out = cond (ltb 4294967295 (d.taken + count)) (Some 1) (cond (not (fits d.n work out)) (Some 2) None)
 
 -- a block of n bytes, with the buffers' room for it
 pub record Roomy (n work out : ℕ) : Type 0 where
@@ -24,17 +30,18 @@ pub record Roomy (n work out : ℕ) : Type 0 where
   pub working : 2 * (n + 10) ≤ work
   pub payload : n ≤ out
 
--- what settling asks for
+-- what settling asks for, by the phase: all of the lead is taken, or the place is one of a copy; and there is no answer yet
+abbrev pub settles_in : (n taken : ℕ) → Phase → Bool
+settles_in n taken (Seeking matched) = leb 20 taken
+settles_in n taken (InOne start place heard frame) = ltb place (n + 10)
+settles_in n taken (Between start heard) = true
+settles_in n taken (InTwo start place heard frame checks) = ltb place (n + 10)
+settles_in n taken (Told start answer checks) = false
+
 pub record Settles (d : Deck) (read : ByteRead) (work out : ℕ) : Type 0 where
   pub room : Roomy d.n work out
-  pub phase : d.phase < 4
-  pub seeking : d.phase ≡ 0 → 20 ≤ d.taken
-  pub place : (d.phase ≡ 0 → ⊥) → (d.phase ≡ 2 → ⊥) → d.place < d.n + 10
+  pub numbers : settles_in d.n d.taken (phase_of d) ≡ true
   pub cause : cause_byte read < 256
-
--- the state and the working buffer are left as here, whatever the output is
-abbrev pub Leaves : (n : ℕ) (d : Deck) (work : List ℕ) → ((out : List ℕ) → Standing) → Type 0
-Leaves n d work s = (out : List ℕ) → lent d work out ≡ lent_of n (s out)
 
 -- a pulse more is heard
 abbrev pub fed_in : Phase → Class → Phase

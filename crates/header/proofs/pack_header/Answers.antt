@@ -5,15 +5,15 @@ use Rattle.header.proofs.pack_header.Goals as goal
 
 pub returns-then-wrong_name : goal.returns-then-wrong_name
 returns-then-wrong_name c =
-    pack_header-wrong_size c.args.out.now c.args.fields c.args.name.now (sym c.wrong_name.ensures ∙ c.if-wrong_name.true) c.at.ensures
+    pack_header-wrong_size c.args.out.now c.args.fields c.args.name.now (sym c.wrong_name.ensures ∙ c.if-wrong_name.true) c.into.ensures
 
 pub returns-then-wrong_type : goal.returns-then-wrong_type
 returns-then-wrong_type c =
-    pack_header-wrong_type c.args.out.now c.args.fields c.args.name.now (sym c.wrong_name.ensures ∙ c.if-wrong_name.false) (sym c.wrong_type.ensures ∙ c.if-wrong_type.true) c.at-then-wrong_type.ensures
+    pack_header-wrong_type c.args.out.now c.args.fields c.args.name.now (sym c.wrong_name.ensures ∙ c.if-wrong_name.false) (sym c.wrong_type.ensures ∙ c.if-wrong_type.true) c.into-then-wrong_type.ensures
 
 pub returns-then-out-lt-HEADER_BYTES : goal.returns-then-out-lt-HEADER_BYTES
 returns-then-out-lt-HEADER_BYTES c =
-    pack_header-no_room c.args.out.now c.args.fields c.args.name.now (sym c.wrong_name.ensures ∙ c.if-wrong_name.false) (sym c.wrong_type.ensures ∙ c.if-wrong_type.false) c.if-out-lt-HEADER_BYTES.true c.at-then-out-lt-HEADER_BYTES.ensures
+    pack_header-no_room c.args.out.now c.args.fields c.args.name.now (sym c.wrong_name.ensures ∙ c.if-wrong_name.false) (sym c.wrong_type.ensures ∙ c.if-wrong_type.false) c.if-out-lt-HEADER_BYTES.true c.into-then-out-lt-HEADER_BYTES.ensures
 
 pub returns : goal.returns
 returns c =

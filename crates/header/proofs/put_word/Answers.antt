@@ -1,7 +1,10 @@
--- `header::put_word` meets its contract: the low byte, then the high byte.
-use Rattle.header.proofs.Packing.{word-put}
+-- `header::put_word` meets its contract: the two bytes, low first.
+use native.Mathlib.Omega.{arith}
+use mathlib.Core.Path.{◌∙◌}
+use Rattle.lists.specs.Text.{low_first}
+use Rattle.header.proofs.Packing.{part-stored}
 use Rattle.header.proofs.put_word.Goals as goal
 
 pub returns : goal.returns
-returns c =
-    word-put c.args.out.now c.args.at c.args.word c.low_byte.ensures c.low_byte-2.ensures
+unfolding low_first
+returns c = part-stored c.args.out.now (low_first 2 c.args.word) c.args.at (omega arith) (omega arith) (c.copy_from_slice.ensures.after ∙ c.to_le_bytes.ensures)

@@ -7,12 +7,12 @@ use lib.ListN.{length}
 use Rattle.header.proofs.HeaderLaws.{shown_count-shown}
 use Rattle.header.proofs.Unpacking.{shown_name-refused, shown_name-long, shown_name-accepted}
 use Rattle.header.proofs.shown_name.Goals as goal
-use Rattle.header.proofs.shown_name.Goals.{After-shown_count-end, In-Accepted}
+use Rattle.header.proofs.shown_name.Goals.{After-shown_count-end, In-Ok}
 
 -- the header is whole, and at most sixteen bytes are shown
-long : (c : In-Accepted) → length c.args.header.now ≡ 192
+long : (c : In-Ok) → length c.args.header.now ≡ 192
 long c =
-    shown_name-long c.args.header.now c.unpack_header.ensures c.in-Accepted.is
+    shown_name-long c.args.header.now c.unpack_header.ensures c.in-Ok.is
 
 count : (c : After-shown_count-end) → c.shown_count-end.result ≤ 16
 count c = rw c.shown_count-end.ensures (shown_count-shown c.args.header.now 16).high
@@ -30,11 +30,11 @@ overflow_add-end c = let l = count c in omega arith
 
 pub slice_bounds-result-end-2 : goal.slice_bounds-result-end-2
 slice_bounds-result-end-2 c =
-    let l = shown_name-long c.args.header.now c.unpack_header.ensures c.in-Accepted.is in
+    let l = shown_name-long c.args.header.now c.unpack_header.ensures c.in-Ok.is in
     let k = count c in
     search rules
 
 pub returns : goal.returns
 returns c =
-    let both = shown_name-accepted c.args.header.now c.unpack_header.ensures c.in-Accepted.is c.shown_count-end.ensures c.args.header.ref_ptr in
+    let both = shown_name-accepted c.args.header.now c.unpack_header.ensures c.in-Ok.is c.shown_count-end.ensures c.args.header.ref_ptr in
     record { bytes = both.0; place = both.1 }

@@ -1,11 +1,7 @@
--- `listing::put_printed` meets its contract. The invariant: the characters of the bytes left, put after those that are there, give them all.
-use Prim.Native.Nat.{◌-◌, ◌≤◌}
-use lib.ListN.{length}
-use Rattle.listing.proofs.LineLaws.{PrintedPut}
+-- `listing::put_printed` meets its contract. The invariant: the characters of the bytes so far are appended.
+use Rattle.std.proofs.Common.{◌≡◌, ◌++◌, map, take}
+use Rattle.listing.specs.Listing.{printed}
 use Rattle.listing.proofs.put_printed.Given as goal
 
-abbrev pub invariant-loop-i : goal.invariant-loop-i
-invariant-loop-i l = (l.i ≤ length l.name) × PrintedPut l.initial.out l.at l.name l.out l.i
-
-abbrev pub decreases-loop-i : goal.decreases-loop-i
-decreases-loop-i l = length l.name - l.i
+abbrev pub invariant-loop-b : goal.invariant-loop-b
+invariant-loop-b l = l.text.bytes ≡ l.initial.text.bytes ++ map printed (take l.b-index l.name)

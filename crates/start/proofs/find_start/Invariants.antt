@@ -15,11 +15,8 @@ invariant-runs l = (l.initial.at ≤ l.at) × Searching (classes l.t l.strip) l.
 abbrev pub decreases-runs : goal.decreases-runs
 decreases-runs l = length l.strip - l.at
 
-abbrev pub invariant-look : goal.invariant-look
-invariant-look l = (l.i ≤ 10) × ((j : ℕ) → j < l.i → fits_at (classes l.t l.strip) l.end 0x89 j ≡ true)
-
-abbrev pub decreases-look : goal.decreases-look
-decreases-look l = 10 - l.i
+abbrev pub invariant-loop-i : goal.invariant-loop-i
+invariant-loop-i l = (j : ℕ) → j < l.i → fits_at (classes l.t l.strip) l.end 0x89 j ≡ true
 
 abbrev pub invariant-search : goal.invariant-search
 invariant-search l = Searching (classes l.t l.strip) l.from l.at

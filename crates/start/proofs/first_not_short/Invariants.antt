@@ -1,5 +1,4 @@
 -- `start::first_not_short` meets its contract. The invariant: the search from i on finds what the whole search finds.
-use Prim.Native.Nat.{◌-◌}
 use mathlib.Core.Path.{◌≡◌}
 use lib.ListN.{length}
 use Rattle.lists.proofs.LoopLaws.{first_left}
@@ -9,6 +8,3 @@ use Rattle.start.proofs.first_not_short.Given as goal
 
 abbrev pub invariant-loop-i : goal.invariant-loop-i
 invariant-loop-i l = first_left (not_short (classes l.t l.strip)) (length l.strip) l.i ≡ first_left (not_short (classes l.t l.strip)) (length l.strip) l.at
-
-abbrev pub decreases-loop-i : goal.decreases-loop-i
-decreases-loop-i l = length l.strip - l.i

@@ -10,14 +10,14 @@ use Rattle.start.proofs.last_not_short.Goals as goal
 
 pub returns-then-not-is_short : goal.returns-then-not-is_short
 returns-then-not-is_short c =
-    let e = not-short-at c.args.t c.args.strip.now (c.args.at + (c.loop-count.count - 1)) (omega arith) ∙ ap not (sym c.is_short.ensures) ∙ c.if-not-is_short.true-raw in
-    sym (last-here (not_short (classes c.args.t c.args.strip.now)) c.args.at c.loop-count.count (omega arith) e) ∙ c.loop-count.invariant.1
+    let e = not-short-at c.args.t c.args.strip.now (c.args.at + (c.loop-i.i - 1)) (omega arith) ∙ ap not (sym c.is_short.ensures) ∙ c.if-not-is_short.true-raw in
+    sym (last-here (not_short (classes c.args.t c.args.strip.now)) c.args.at c.loop-i.i (omega arith) e) ∙ c.loop-i.invariant
 
-pub loop-count-preserved : goal.loop-count-preserved
-loop-count-preserved c =
-    let e = not-short-at c.args.t c.args.strip.now (c.args.at + (c.loop-count.count - 1)) (omega arith) ∙ ap not (sym c.is_short.ensures) ∙ c.if-not-is_short.false-raw in
-    (omega arith, last-passed (not_short (classes c.args.t c.args.strip.now)) c.args.at c.loop-count.count (omega arith) e ∙ c.loop-count.invariant.1)
+pub loop-i-preserved : goal.loop-i-preserved
+loop-i-preserved c =
+    let e = not-short-at c.args.t c.args.strip.now (c.args.at + (c.loop-i.i - 1)) (omega arith) ∙ ap not (sym c.is_short.ensures) ∙ c.if-not-is_short.false-raw in
+    last-passed (not_short (classes c.args.t c.args.strip.now)) c.args.at c.loop-i.i (omega arith) e ∙ c.loop-i.invariant
 
 pub returns : goal.returns
 returns c =
-    sym (last-over (not_short (classes c.args.t c.args.strip.now)) c.args.at c.loop-count.count (omega arith)) ∙ c.loop-count.invariant.1
+    sym (last-over (not_short (classes c.args.t c.args.strip.now)) c.args.at c.loop-i.i (omega arith)) ∙ c.loop-i.invariant

@@ -1,6 +1,6 @@
 -- What the private functions of the search for a start come to. No promise to a caller cites this.
 use Rattle.std.specs.Prelude.{ℕ, zero, suc, ◌+◌, Bool, cond, not, List, get_or}
-use Rattle.std.proofs.Math.Option.{Option, none, some}
+use Rattle.std.specs.Prelude.{Option, None, Some}
 use Rattle.pulse.specs.declared.Class.{Class}
 use Rattle.pulse.specs.declared.Class.TheVariants.{Short, Noise}
 use Rattle.pulse.specs.Pulse.{same}
@@ -11,5 +11,5 @@ not_short cs i = not (same (get_or cs i Noise) Short)
 
 -- the largest of at, at + 1 .. at + count - 1 that passes the test
 unfoldable pub last_from : (ℕ → Bool) → ℕ → ℕ → Option ℕ
-last_from f zero at = none
-last_from f (suc count) at = let earlier = last_from f count at in cond (f (at + count)) (some (at + count)) earlier
+last_from f zero at = None
+last_from f (suc count) at = let earlier = last_from f count at in cond (f (at + count)) (Some (at + count)) earlier

@@ -1,9 +1,11 @@
 -- The forms of durations: what each stands for, what one byte counts of a duration, and whether all have a form.
-use Rattle.std.specs.Prelude.{ℕ, ◌+◌, ◌*◌, ◌/◌, ◌%◌, Bool, true, false, cond, not, ◌&&◌, List, [], ◌∷◌, eqb, leb}
-use Rattle.std.proofs.Math.Option.{Option, none, some}
+use Rattle.std.specs.Prelude.{ℕ, ◌+◌, ◌*◌, ◌/◌, ◌%◌, Bool, true, cond, not, ◌&&◌, List, [], ◌∷◌, eqb, leb, Option, None, Some}
+use Rattle.std.specs.Option.{is_some}
 use Rattle.lists.specs.Places.{part}
-use Rattle.lists.specs.Text.{from_low}
+use Rattle.lists.specs.Text.{low_first, from_low}
 use Rattle.pulse.specs.Units.{unit_cycles}
+use Rattle.tap.specs.declared.forms.Form.{Form}
+use Rattle.tap.specs.declared.forms.Form.TheVariants.{Byte, Long}
 use Rattle.tap.specs.Tap.{zero_cycles, first_without}
 
 -- ---- Groups
@@ -28,10 +30,12 @@ long_cycles bytes i = from_low (part bytes (i + 1) 3)
 unfoldable pub byte_units : (duration : ℕ) → ℕ
 byte_units d = cond (eqb (d % unit_cycles) 0 && leb (d / unit_cycles) 255) (d / unit_cycles) 0
 
-abbrev pub is_found : Option ℕ → Bool
-is_found none = false
-is_found (some place) = true
+-- the bytes of a form; none where there is none
+abbrev pub bytes_of : Option Form → List ℕ
+bytes_of None = []
+bytes_of (Some (Byte b)) = b ∷ []
+bytes_of (Some (Long cycles)) = 0 ∷ low_first 3 cycles.0
 
 -- some duration has no form
 abbrev pub is_missing : (version : ℕ) (durations : List ℕ) → Bool
-is_missing version ds = is_found (first_without version ds)
+is_missing version ds = is_some (first_without version ds)

@@ -1,14 +1,10 @@
 -- Reading: the answer of the header, what the data come to, and what the loops keep.
-use Rattle.std.specs.Prelude.{ℕ, ◌+◌, ◌-◌, ◌*◌, ◌≤◌, ◌<◌, ◌≡◌, cond, List, eqb, length, drop, get_or}
+use Rattle.std.specs.Prelude.{ℕ, ◌+◌, ◌-◌, ◌*◌, ◌≤◌, ◌<◌, ◌≡◌, cond, List, eqb, length, drop, get_or, Result, MatchResult}
+use Rattle.refusal.specs.declared.Refusal.{Refusal}
 use Rattle.std.proofs.lemmas.List.Edits.{sets}
 use Rattle.refusal.specs.Outcome.{Outcome, accepted, refused_with, mapped, and_then, puts}
-use Rattle.tap.specs.declared.header.VersionAnswer.{VersionAnswer}
-use Rattle.tap.specs.declared.header.VersionAnswer.TheVariants.{Version, Refused}
+use Rattle.tap.specs.declared.reader.FormPlace.{FormPlace}
 use Rattle.tap.specs.Reading.{Tap, tap_with, durations_in, fitting}
-
-abbrev pub version_answer : VersionAnswer → Outcome ℕ
-version_answer (Version version) = accepted version
-version_answer (Refused r) = refused_with r
 
 -- what the data of a file come to whose header is sound
 unfoldable pub read_durations : (room version : ℕ) (bytes : List ℕ) → Outcome Tap
@@ -30,10 +26,9 @@ pub record Cut (bytes : List ℕ) (i : ℕ) : Type 0 where
   pub zero : get_or bytes i 0 ≡ 0
   pub short : length bytes - i < 4
 
--- counting from one place ended at another; they are the same only where a form is cut short
-pub record CountedTo (bytes : List ℕ) (start place : ℕ) : Type 0 where
-  pub order : start ≤ place
-  pub cut : place ≡ start → Cut bytes start
+-- what counting a group comes to that begins at `start`: the place after it, or the refusal of all the data
+abbrev pub CountedOn : (bytes : List ℕ) (start : FormPlace) (r : Result FormPlace Refusal) → Type 0
+CountedOn bytes start r = MatchResult r (λ next. (start.place < next.place) × Counted bytes next.place next.count) (λ why. refused_with why ≡ mapped length (durations_in 1 0 bytes))
 
 -- From place `start`, where a form begins, to place i no zero byte stands in the three bytes after another, so that each begins a long form.
 -- The next form begins at `place`; before it there are, for each zero byte, three durations fewer than bytes.

@@ -1,8 +1,11 @@
--- `wear::any_above` meets its contract: eleven tests.
-use Rattle.wear.proofs.Adding.{any-eleven}
+-- `wear::any_above` meets its contract.
+use mathlib.Core.Path.{◌∙◌}
+use Rattle.std.proofs.Common.{rules, tests}
+use Rattle.std.proofs.lemmas.Iterator.{YieldsList-from_slice}
+use Rattle.std.proofs.lemmas.Iterator.Search.{any_from_yields_List}
+use Rattle.wear.proofs.Adding.{above-any}
 use Rattle.wear.proofs.any_above.Goals as goal
 
 pub returns : goal.returns
 returns c =
-    any-eleven c.args.bad c.above-9.ensures c.above-10.ensures c.above-11.ensures c.above-5.ensures c.above-6.ensures
-    c.above-7.ensures c.above-8.ensures c.above.ensures c.above-2.ensures c.above-3.ensures c.above-4.ensures
+    any_from_yields_List _ _ _ _ c.any.ensures.ran (YieldsList-from_slice c.args.counts.now cc) (λ x b q k. search (rules, tests)) ∙ above-any c.args.counts.now

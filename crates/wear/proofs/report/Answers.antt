@@ -5,13 +5,13 @@ use Rattle.wear.proofs.report.Goals as goal
 
 pub returns-then-is_full-strip : goal.returns-then-is_full-strip
 returns-then-is_full-strip c =
-    rw c.at.ensures (report-refused fixed c.args.totals c.args.strip.now (rw c.is_full.ensures at c.if-is_full-strip.true))
+    rw c.into.ensures (report-refused fixed c.args.totals c.args.strip.now (rw c.is_full.ensures at c.if-is_full-strip.true))
 
-pub add_strip-requires : goal.add_strip-requires
-add_strip-requires c =
+pub plus-requires : goal.plus-requires
+plus-requires c =
     sums-fit fixed c.args.totals c.args.strip.now (rw c.is_full.ensures at c.if-is_full-strip.false) c.count_classes-pulses.ensures c.count_places-places.ensures
 
 pub returns : goal.returns
 returns c =
     report-added fixed c.args.totals c.args.strip.now (rw c.is_full.ensures at c.if-is_full-strip.false) c.count_classes-pulses.ensures c.count_places-places.ensures
-    c.add_strip.ensures
+    c.plus.ensures

@@ -38,6 +38,17 @@ pub record BothFit (a b : ByCause) : Type 0 where
   pub parity : a.parity + b.parity < 2 ^ 64
   pub ones : a.ones + b.ones < 2 ^ 64
 
+-- the places of both, and their bad bytes
+abbrev pub both_tallies : Tally → Tally → Tally
+both_tallies a b = record { one = a.one + b.one; two = a.two + b.two; lost = a.lost + b.lost; bad = both_bad a.bad b.bad }
+
+-- no sum of them is too large
+pub record TalliesFit (a b : Tally) : Type 0 where
+  pub one : a.one + b.one < 2 ^ 64
+  pub two : a.two + b.two < 2 ^ 64
+  pub lost : a.lost + b.lost < 2 ^ 64
+  pub bad : BothFit a.bad b.bad
+
 abbrev pub sums : Totals → Pulses → Tally → Totals
 sums t pulses places = record {
   strips = t.strips + 1;

@@ -1,19 +1,16 @@
+use native.Mathlib.Omega.{arith}
 use mathlib.Core.Path.{sym, ◌∙◌}
-use Rattle.deck.proofs.Answering.{open-inside, end-closed, end-room, end-ends}
+use Rattle.deck.proofs.Answering.{open-inside, end-closed, end-refused, end-ends}
 use Rattle.deck.proofs.Deck.end.Goals as goal
 
--- src/lib.rt:172:13
 pub returns-then-is_closed : goal.returns-then-is_closed
 returns-then-is_closed c = end-closed c.args.self c.args.work.now c.args.out.now c.is_closed.ensures c.if-is_closed.true
 
--- src/lib.rt:174:13
-pub has_room-requires : goal.has_room-requires
-has_room-requires c = open-inside c.args.self (sym c.is_closed.ensures ∙ c.if-is_closed.false)
+pub refusal-requires : goal.refusal-requires
+refusal-requires c = open-inside c.args.self (sym c.is_closed.ensures ∙ c.if-is_closed.false)
 
--- src/lib.rt:176:13
-pub returns-then-not-has_room : goal.returns-then-not-has_room
-returns-then-not-has_room c = end-room c.args.self c.args.work.now c.args.out.now c.is_closed.ensures c.if-is_closed.false c.has_room.ensures c.if-not-has_room.true
+pub returns-in-Some : goal.returns-in-Some
+returns-in-Some c = end-refused c.args.self c.args.work.now c.args.out.now (sym c.is_closed.ensures ∙ c.if-is_closed.false) c.refusal.ensures (omega arith) c.in-Some.is
 
--- src/lib.rt:168:5
 pub returns : goal.returns
-returns c = end-ends c.args.self c.args.work.now c.args.out.now c.is_closed.ensures c.if-is_closed.false c.has_room.ensures c.if-not-has_room.false c.finish.ensures
+returns c = end-ends c.args.self c.args.work.now c.args.out.now (sym c.is_closed.ensures ∙ c.if-is_closed.false) c.refusal.ensures c.in_default.is c.finish.ensures

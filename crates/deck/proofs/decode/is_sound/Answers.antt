@@ -1,10 +1,8 @@
 use Rattle.deck.proofs.Coding.{sound-marker, sound-bit}
 use Rattle.deck.proofs.decode.is_sound.Goals as goal
 
--- src/decode.rt:64:9
 pub returns-then-i-eq0 : goal.returns-then-i-eq0
 returns-then-i-eq0 c = sound-marker _ c.args.first c.args.last c.if-i-eq0.true
 
--- src/decode.rt:60:1
 pub returns : goal.returns
 returns c = sound-bit _ c.args.first c.args.last c.if-i-eq0.false

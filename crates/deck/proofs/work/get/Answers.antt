@@ -1,10 +1,8 @@
 use Rattle.deck.proofs.Coding.{get-good, get-bad}
 use Rattle.deck.proofs.work.get.Goals as goal
 
--- src/work.rt:41:9
 pub returns-then-mark-eq0 : goal.returns-then-mark-eq0
 returns-then-mark-eq0 c = get-good c.args.work.now c.args.place c.if-mark-eq0.true
 
--- src/work.rt:35:1
 pub returns : goal.returns
 returns c = get-bad c.args.work.now c.args.place c.if-mark-eq0.false

@@ -8,8 +8,8 @@ returns-in_default c = record { value = units_of-none c.args.duration c.units_of
 
 pub returns-then-units : goal.returns-then-units
 returns-then-units c =
-    record { value = units_of-few c.args.duration c.units_of.ensures c.in-Whole.is c.if-units.true; fits = omega arith }
+    record { value = units_of-few c.args.duration c.units_of.ensures c.in-Some.is c.if-units.true; fits = omega arith }
 
 pub returns : goal.returns
 returns c =
-    record { value = units_of-many c.args.duration c.units_of.ensures c.in-Whole.is c.if-units.false; fits = omega arith }
+    record { value = units_of-many c.args.duration c.units_of.ensures c.in-Some.is c.if-units.false; fits = omega arith }

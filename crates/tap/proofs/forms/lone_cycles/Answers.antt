@@ -6,5 +6,5 @@ use Rattle.tap.proofs.forms.lone_cycles.Goals as goal
 pub returns-then-b-eq0 : goal.returns-then-b-eq0
 returns-then-b-eq0 c = sym (lone_cycles-zero c.args.b c.if-b-eq0.true)
 
-pub returns : goal.returns
-returns c = c.byte_cycles.ensures ∙ sym (lone_cycles-units c.args.b c.if-b-eq0.false)
+pub returns-else-b-eq0 : goal.returns-else-b-eq0
+returns-else-b-eq0 c = c.byte_cycles.ensures ∙ sym (lone_cycles-units c.args.b c.if-b-eq0.false)

@@ -2,8 +2,8 @@
 use Rattle.tap.proofs.GroupLaws.{test-next, test-done}
 use Rattle.tap.proofs.groups.no_zeros.Goals as goal
 
-pub loop-i-preserved : goal.loop-i-preserved
-loop-i-preserved c = test-next c.loop-i.invariant c.loop-i-test.true
+pub loop-b-preserved : goal.loop-b-preserved
+loop-b-preserved c = test-next c.loop-b.invariant c.loop-b-test.true
 
 pub returns : goal.returns
-returns c = test-done c.loop-i.invariant c.loop-i-test.false
+returns c = test-done c.loop-b.invariant c.loop-b-test.false

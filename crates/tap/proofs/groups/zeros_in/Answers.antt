@@ -10,9 +10,7 @@ pub loop-i-preserved : goal.loop-i-preserved
 loop-i-preserved c =
     let flag = flag-le (eqb (get_or c.args.bytes.now c.loop-i.i 0) 0) in (
       omega arith,
-      omega arith,
-      omega arith,
       λ t.
           let both = and-true c.loop-i.apart _ t in
-          apart_next c.args.bytes.now c.args.start (c.loop-i.invariant.3 both.0) c.loop-i.invariant.0 (omega arith) both.1,
+          apart_next c.args.bytes.now c.args.start (c.loop-i.invariant.1 both.0) (omega arith) (omega arith) both.1,
     )

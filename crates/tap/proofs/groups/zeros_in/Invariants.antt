@@ -6,7 +6,4 @@ use Rattle.tap.specs.private.Reader.{Apart}
 use Rattle.tap.proofs.groups.zeros_in.Given as goal
 
 abbrev pub invariant-loop-i : goal.invariant-loop-i
-invariant-loop-i l = (l.start ≤ l.i) × (l.i ≤ l.end) × (l.count ≤ l.i - l.start) × (l.apart ≡ true → Apart l.bytes l.start l.i l.count)
-
-abbrev pub decreases-loop-i : goal.decreases-loop-i
-decreases-loop-i l = l.end - l.i
+invariant-loop-i l = (l.count ≤ l.i - l.start) × (l.apart ≡ true → Apart l.bytes l.start l.i l.count)

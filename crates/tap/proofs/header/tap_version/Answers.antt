@@ -5,16 +5,16 @@ use Rattle.tap.proofs.header.tap_version.Goals as goal
 
 pub returns-then-wrong_letters : goal.returns-then-wrong_letters
 returns-then-wrong_letters c =
-    tap_version-wrong_letters c.args.file.now (sym c.wrong_letters.ensures ∙ c.if-wrong_letters.true) c.at.ensures
+    tap_version-wrong_letters c.args.file.now (sym c.wrong_letters.ensures ∙ c.if-wrong_letters.true) c.into.ensures
 
 pub returns-then-version-gt-LAST_VERSION : goal.returns-then-version-gt-LAST_VERSION
 returns-then-version-gt-LAST_VERSION c =
-    tap_version-wrong_tap_version c.args.file.now (sym c.wrong_letters.ensures ∙ c.if-wrong_letters.false) c.if-version-gt-LAST_VERSION.true c.at-then-version-gt-LAST_VERSION.ensures
+    tap_version-wrong_tap_version c.args.file.now (sym c.wrong_letters.ensures ∙ c.if-wrong_letters.false) c.if-version-gt-LAST_VERSION.true c.into-then-version-gt-LAST_VERSION.ensures
 
 pub returns-then-wrong_count : goal.returns-then-wrong_count
 returns-then-wrong_count c =
     tap_version-wrong_count c.args.file.now (sym c.wrong_letters.ensures ∙ c.if-wrong_letters.false) c.if-version-gt-LAST_VERSION.false
-    (sym c.wrong_count.ensures ∙ c.if-wrong_count.true) c.at-then-wrong_count.ensures
+    (sym c.wrong_count.ensures ∙ c.if-wrong_count.true) c.into-then-wrong_count.ensures
 
 pub returns : goal.returns
 returns c =

@@ -5,7 +5,7 @@ use Rattle.tap.specs.private.Reader.{Counted}
 use Rattle.tap.proofs.reader.count_each.Given as goal
 
 abbrev pub invariant-loop-i : goal.invariant-loop-i
-invariant-loop-i l = (l.start ≤ l.i) × Counted l.bytes l.i l.count
+invariant-loop-i l = (l.fn.start.place ≤ l.i) × Counted l.bytes l.i l.count
 
 abbrev pub decreases-loop-i : goal.decreases-loop-i
 decreases-loop-i l = length l.bytes - l.i

@@ -1,24 +1,13 @@
--- `tap::writer::first_without` meets its contract. The invariant: the first duration without a form is the first from the place on, and there is one.
-use native.Mathlib.Omega.{arith}
-use Rattle.tap.proofs.WriterLaws.{search-within, search-next, search-done}
+-- `tap::writer::first_without` meets its contract: the position of the first duration whose form has no byte.
+use Rattle.std.proofs.Common.{rules, ◌∙◌}
+use Rattle.std.proofs.lemmas.Iterator.{YieldsList-from_slice}
+use Rattle.std.proofs.lemmas.Iterator.Adapters.{position_from-zero}
+use Rattle.std.proofs.lemmas.Iterator.Search.{position_from_yields_List}
+use Rattle.tap.specs.Tap.{has_no_form}
+use Rattle.tap.proofs.WriterLaws.{first_without-found}
 use Rattle.tap.proofs.writer.first_without.Goals as goal
-
-pub offset_bounds-durations-i : goal.offset_bounds-durations-i
-offset_bounds-durations-i c = let within = search-within c.args.version c.args.durations.now c.loop-i.invariant in omega arith
-
-pub bounds-durations-i : goal.bounds-durations-i
-bounds-durations-i c = search-within c.args.version c.args.durations.now c.loop-i.invariant
-
-pub overflow_add-i : goal.overflow_add-i
-overflow_add-i c = let within = search-within c.args.version c.args.durations.now c.loop-i.invariant in omega arith
-
-pub loop-i-smaller : goal.loop-i-smaller
-loop-i-smaller c = let within = search-within c.args.version c.args.durations.now c.loop-i.invariant in omega arith
-
-pub loop-i-preserved : goal.loop-i-preserved
-loop-i-preserved c =
-    search-next c.args.version c.args.durations.now c.loop-i.invariant c.form_width.ensures c.loop-i-test.true
 
 pub returns : goal.returns
 returns c =
-    search-done c.args.version c.args.durations.now c.loop-i.invariant c.form_width.ensures c.loop-i-test.false
+    let found = position_from_yields_List (has_no_form c.args.version) _ _ c.position.result c.position.ensures.ran (YieldsList-from_slice c.args.durations.now cc) (λ x b q k. search rules) in
+    first_without-found c.args.version c.args.durations.now (found ∙ position_from-zero (has_no_form c.args.version) c.args.durations.now)

@@ -5,7 +5,7 @@ use Rattle.tap.proofs.writer.put_file.Goals as goal
 
 pub returns-then-out-count : goal.returns-then-out-count
 returns-then-out-count c =
-    put_file-no_room c.args.out.now c.args.version (tap_data c.args.version c.args.durations.now) c.requires.count c.if-out-count.true c.at.ensures
+    put_file-no_room c.args.out.now c.args.version (tap_data c.args.version c.args.durations.now) c.requires.count c.if-out-count.true c.into.ensures
 
 pub returns : goal.returns
 returns c =

@@ -1,18 +1,25 @@
--- `tap::writer::put_form` meets its contract: the width tells the form.
-use Rattle.tap.proofs.WriterLaws.{put_form-one, put_form-four, put_form-none}
+-- `tap::writer::put_form` meets its contract: the form is a byte, or the long form, or there is none.
+use native.Mathlib.Omega.{arith}
+use mathlib.Core.Path.{ap, ◌∙◌}
+use lib.ListN.{length}
+use lib.Seq.{sets}
+use Rattle.lists.specs.Text.{low_first}
+use Rattle.tap.proofs.FormLaws.{bytes_found}
 use Rattle.tap.proofs.writer.put_form.Goals as goal
 
-pub returns-then-width-eq1 : goal.returns-then-width-eq1
-returns-then-width-eq1 c =
-    let form = put_form-one c.args.out.now c.args.at c.args.version c.args.duration.0 c.form_width-width.ensures c.if-width-eq1.true c.byte_units.ensures.value in
-    record { value = form.0; put = form.1 }
+pub put_long-requires : goal.put_long-requires
+unfolding low_first
+put_long-requires c = let width = ap length (bytes_found c.in-Some-Long.ensures c.in-Some-Long.field-0-is) in omega arith
 
-pub returns-then-width-eq-LONG_BYTES : goal.returns-then-width-eq-LONG_BYTES
-returns-then-width-eq-LONG_BYTES c =
-    let form = put_form-four c.args.out.now c.args.at c.args.version c.args.duration.0 c.form_width-width.ensures c.if-width-eq-LONG_BYTES.true c.put_long.ensures in
-    record { value = form.0; put = form.1 }
+pub returns-in-None-clause-put : goal.returns-in-None-clause-put
+returns-in-None-clause-put c = ap (sets c.args.out.now c.args.at) c.in-None.ensures
 
-pub returns : goal.returns
-returns c =
-    let form = put_form-none c.args.out.now c.args.at c.args.version c.args.duration.0 c.form_width-width.ensures c.if-width-eq1.false c.if-width-eq-LONG_BYTES.false in
-    record { value = form.0; put = form.1 }
+pub returns-in-Some-Byte-clause-put : goal.returns-in-Some-Byte-clause-put
+returns-in-Some-Byte-clause-put c = ap (sets c.args.out.now c.args.at) (bytes_found c.in-Some-Byte.ensures c.in-Some-Byte.field-0-is)
+
+pub returns-in-Some-Long-clause-value : goal.returns-in-Some-Long-clause-value
+unfolding low_first
+returns-in-Some-Long-clause-value c = let width = ap length (bytes_found c.in-Some-Long.ensures c.in-Some-Long.field-0-is) in omega arith
+
+pub returns-in-Some-Long-clause-put : goal.returns-in-Some-Long-clause-put
+returns-in-Some-Long-clause-put c = c.put_long.ensures ∙ ap (sets c.args.out.now c.args.at) (bytes_found c.in-Some-Long.ensures c.in-Some-Long.field-0-is)

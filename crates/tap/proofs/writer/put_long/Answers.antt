@@ -1,7 +1,7 @@
--- `tap::writer::put_long` meets its contract: four stores, one after the other.
+-- `tap::writer::put_long` meets its contract: a byte is stored, and three are copied after it.
 use Rattle.tap.proofs.WriterLaws.{sets-long_form}
 use Rattle.tap.proofs.writer.put_long.Goals as goal
 
 pub returns : goal.returns
 returns c =
-    sets-long_form c.args.out.now c.args.at c.args.duration.0 c.low_byte.ensures c.low_byte-2.ensures c.low_byte-3.ensures
+    sets-long_form c.args.out.now c.args.at c.args.duration.0 c.requires c.to_le_bytes.ensures c.copy_from_slice.ensures.after

@@ -6,7 +6,7 @@ use Rattle.wear.proofs.Walking.{Walking}
 use Rattle.wear.proofs.count.count_places.Given as goal
 
 abbrev pub invariant-loop-b : goal.invariant-loop-b
-invariant-loop-b l = Walking (classes fixed l.strip) l.one l.two l.lost l.bad l.at
+invariant-loop-b l = Walking (classes fixed l.strip) l.sum l.at
 
 abbrev pub decreases-loop-b : goal.decreases-loop-b
 decreases-loop-b l = length l.strip - l.at.from

@@ -3,5 +3,4 @@ use Rattle.byte.proofs.FrameLaws.{bounds-are}
 use Rattle.byte.proofs.decoder.Bounds.new.Goals as goal
 
 pub returns : goal.returns
-returns c =
-    bounds-are c.args.t c.above-medium.ensures c.above-long.ensures c.larger.ensures c.above.ensures
+returns c = bounds-are c.args.t c.saturating_sub-medium.ensures c.saturating_sub-long.ensures c.max.ensures c.saturating_sub-noise.ensures
