@@ -55,9 +55,6 @@ room : (c : After-map_err) → 192 ≤ length c.args.header.now
 room c =
     ltb-false (length c.args.header.now) 192 (or-false (ltb (length c.args.header.now) 192) (ltb (length c.args.bytes.now) c.in_ok-n.n) c.if-header-bytes.false).0
 
-pub slice_bounds-copy_from_slice-end : goal.slice_bounds-copy_from_slice-end
-slice_bounds-copy_from_slice-end c = room (goal.at.slice_bounds-copy_from_slice-end c).After-map_err
-
 pub slice_bounds-copy_from_slice-end-2 : goal.slice_bounds-copy_from_slice-end-2
 slice_bounds-copy_from_slice-end-2 c = let r = room (goal.at.slice_bounds-copy_from_slice-end-2 c).After-map_err in search rules
 

@@ -1,11 +1,7 @@
 -- `tap::writer::measure_forms` meets its contract: the first duration without a form, where one is missing, and else the sum.
-use mathlib.Core.Path.{sym, ap, ◌∙◌}
-use Rattle.std.specs.Option.{is_some}
-use Rattle.tap.proofs.WriterLaws.{sum-none, sum-some, data_of-no_tap_form, data_of-accepted}
+use mathlib.Core.Path.{sym, ◌∙◌}
+use Rattle.tap.proofs.WriterLaws.{sum-some, data_of-no_tap_form, data_of-accepted}
 use Rattle.tap.proofs.writer.measure_forms.Goals as goal
-
-pub unwrap-i-requires : goal.unwrap-i-requires
-unwrap-i-requires c = ap is_some c.first_without.ensures ∙ sum-none c.args.version c.args.durations.now c.sum_widths.ensures c.in_default.is
 
 pub returns-in_default : goal.returns-in_default
 returns-in_default c =

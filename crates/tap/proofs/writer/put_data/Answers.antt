@@ -1,13 +1,7 @@
 -- `tap::writer::put_data` meets its contract. The invariant: the forms of the durations left, put after those that are there, give all data bytes.
-use mathlib.Core.Path.{ap, ◌∙◌}
-use Rattle.std.specs.Slice.Iter.{chunks_rest}
 use Rattle.tap.proofs.FormLaws.{tap_data-group, tap_data-none}
-use Rattle.tap.proofs.WriterLaws.{DataPut-begun, DataPut-room, DataPut-next, DataPut-done}
+use Rattle.tap.proofs.WriterLaws.{DataPut-room, DataPut-next, DataPut-done}
 use Rattle.tap.proofs.writer.put_data.Goals as goal
-
-pub loop-group-init : goal.loop-group-init
-loop-group-init c =
-    DataPut-begun c.args.version c.args.durations.now c.args.out.now 20 (ap chunks_rest c.into_iter-group-iterator.ensures.into_iter_gives ∙ c.chunks-group-items.ensures.rest)
 
 pub put_group-at-requires : goal.put_group-at-requires
 put_group-at-requires c =
