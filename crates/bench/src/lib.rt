@@ -58,10 +58,8 @@ fn tally(t: Thresholds, pulses: &[u32]) -> BenchTally
 {
     let mut good: usize = 0;
     let mut xor: u8 = 0;
-    let count = pulses.len() / byte::BYTE_PULSES;
-    for i in 0..count {
-        let at = byte::BYTE_PULSES * i;
-        if let Some(v) = byte::read_frame(t, &pulses[at..at + byte::BYTE_PULSES]) {
+    for frame in pulses.chunks_exact(byte::BYTE_PULSES) {
+        if let Some(v) = byte::read_frame(t, frame) {
             good += 1;
             xor ^= v;
         }

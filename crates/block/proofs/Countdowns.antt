@@ -4,7 +4,9 @@ use native.Mathlib.Omega.{arith}
 use mathlib.Core.Path.{◌≡◌, refl, sym, ap, ◌∙◌}
 use mathlib.Core.Bool.{Bool, true, false}
 use mathlib.Core.List.{List, [], ◌∷◌}
-use lib.ListN.{length, get_or}
+use Rattle.std.specs.Prelude.{Option, Some, eqb}
+use Rattle.std.specs.Option.{option_eq}
+use lib.ListN.{get_or}
 use Rattle.lists.specs.Places.{tabulate}
 use Rattle.pulse.specs.declared.Class.{Class}
 use Rattle.byte.specs.declared.ByteRead.{ByteRead}
@@ -12,8 +14,7 @@ use Rattle.byte.specs.declared.ByteRead.TheVariants.{Good, Bad}
 use Rattle.byte.specs.Byte.{value_in, byte_at, is_good}
 use Rattle.block.specs.Reading.{is_counted}
 use Rattle.block.specs.Block.{first_byte, countdown}
-use Rattle.block.specs.private.Checks.{has_value}
-use Rattle.block.proofs.BlockLaws.{length-countdown, countdown-at}
+use Rattle.block.proofs.BlockLaws.{countdown-at}
 
 abbrev pub table : List (List ℕ)
 table =
@@ -31,13 +32,14 @@ module _ (copy : ℕ) (h : copy < 2) where
       go (suc zero) h = refl
       go (suc (suc copy)) h = absurd (omega arith)
 
-  pub length-row : length (get_or table copy []) ≡ 9
-  length-row = ap length row-countdown ∙ length-countdown copy
-
   pub row_at : (i : ℕ) → i < 9 → get_or (get_or table copy []) i 0 ≡ first_byte copy - i
   row_at i l = ap (λ (row : List ℕ). get_or row i 0) row-countdown ∙ countdown-at copy i l
 
 -- ---- Rule 3
+
+-- a frame has this value
+abbrev pub has_value : ℕ → Option ℕ → Bool
+has_value v read = option_eq eqb read (Some v)
 
 good-value : (v : ℕ) (r : ByteRead) → has_value v (value_in r) ≡ is_good v r
 good-value v (Good w) = refl

@@ -2,8 +2,8 @@
 use Prim.Native.Nat.{ℕ, ◌+◌, ◌-◌, ◌*◌, ◌≤◌, ◌<◌}
 use native.Mathlib.Decide.{ℕ_discrete, dec_lt}
 use native.Mathlib.Omega.{arith}
-use mathlib.Core.Path.{◌≡◌, refl, sym, ap, ◌∙◌}
-use mathlib.Core.Bool.{Bool, true, false, cond, not, ◌||◌, beq}
+use mathlib.Core.Path.{◌≡◌, refl, sym, ◌∙◌}
+use mathlib.Core.Bool.{Bool, true, false, cond, ◌||◌}
 use mathlib.Core.List.{List}
 use borrow.Author.Tests.{lt-ltb, le-ltb, ne_eqb}
 use lib.Dec.{eqb, ltb}
@@ -58,18 +58,20 @@ module _ (t : Thresholds) (strip : List ℕ) (one two : ℕ) where
         (λ j a b. bits-value j (values j (omega arith)) (e j a (omega arith)))
 
     -- where none is repaired, and where each is
-    values_one : {repaired : ℕ} → repaired ≡ repairs cs one two n → repaired ≡ 0 → tabulate (bits_of t strip one) (n - 0) 0 ≡ values_at cs one two n
+    values_one : {repaired : ℕ} → repaired ≡ repairs cs one two n → repaired ≡ 0 → tabulate (bits_of t strip one) n 0 ≡ values_at cs one two n
     values_one c e =
-        part-value 0 n (omega arith) (omega arith) (λ j a b. count_none (is_repaired cs one two) (n + 1) (sym c ∙ e) j (omega arith))
+        sym (table-begun (bits_of t strip one) n)
+        ∙ part-value 0 n (omega arith) (omega arith) (λ j a b. count_none (is_repaired cs one two) (n + 1) (sym c ∙ e) j (omega arith))
         ∙ table-begun (value_at cs one two) n
 
-    values-two : {repaired : ℕ} → repaired ≡ repairs cs one two n → n < repaired → tabulate (bits_of t strip two) (n - 0) 0 ≡ values_at cs one two n
+    values-two : {repaired : ℕ} → repaired ≡ repairs cs one two n → n < repaired → tabulate (bits_of t strip two) n 0 ≡ values_at cs one two n
     values-two c e =
-        part-value 0 n (omega arith) (omega arith) (λ j a b. count-all (is_repaired cs one two) (n + 1) (omega arith) j (omega arith))
+        sym (table-begun (bits_of t strip two) n)
+        ∙ part-value 0 n (omega arith) (omega arith) (λ j a b. count-all (is_repaired cs one two) (n + 1) (omega arith) j (omega arith))
         ∙ table-begun (value_at cs one two) n
 
     pub values-whole : {repaired copy : ℕ} → repaired ≡ repairs cs one two n → (eqb repaired 0 || ltb n repaired) ≡ true → copy ≡ cond (ltb n repaired) two one
-        → tabulate (bits_of t strip copy) (n - 0) 0 ≡ values_at cs one two n
+        → tabulate (bits_of t strip copy) n 0 ≡ values_at cs one two n
     values-whole {repaired} c h e = elim (dec_lt n repaired) [
       | yes l ↦ rw (e, lt-ltb n repaired l) (values-two c l)
       | no l ↦
@@ -101,21 +103,13 @@ module _ (t : Thresholds) (strip : List ℕ) (one two : ℕ) where
 
 -- ---- A buffer that holds copy one's bits
 
--- the copy whose bits are put lies on the strip
-pub whole-within : {copy : ℕ} (one two n repaired : ℕ) → copy ≡ cond (ltb n repaired) two one → one ≤ two → copy ≤ two
-whole-within one two n repaired e h = elim (dec_lt n repaired) [
-  | yes l ↦ omega (arith, rw (lt-ltb n repaired l) at e)
-  | no l ↦ omega (arith, rw (le-ltb n repaired (omega arith)) at e)
-]
-
 module _ (t : Thresholds) (strip : List ℕ) (one n : ℕ) where
   -- they were put
   pub bits-held : {copy : ℕ} (two repaired : ℕ) (out out' : List ℕ) → n ≤ length out → (eqb repaired 0 || ltb n repaired) ≡ false → copy ≡ cond (ltb n repaired) two one
-      → out' ≡ sets out 0 (tabulate (bits_of t strip copy) (n - 0) 0) → HoldsBits t strip one n out' 0
+      → out' ≡ sets out 0 (tabulate (bits_of t strip copy) n 0) → HoldsBits t strip one n out' 0
   bits-held two repaired out out' room h e s j a b =
       let l = (or-false (eqb repaired 0) (ltb n repaired) h).1 in
-      let z : n - 0 ≡ n = omega arith in
-      let same : out' ≡ sets out 0 (tabulate (bits_of t strip one) n 0) = s ∙ rw (e, l, z) in
+      let same : out' ≡ sets out 0 (tabulate (bits_of t strip one) n 0) = s ∙ rw (e, l) in
       rw same (get_or-stored (bits_of t strip one) n 0 out j (omega arith) a (omega arith))
 
   -- places after a run that was put hold what they held
@@ -125,11 +119,10 @@ module _ (t : Thresholds) (strip : List ℕ) (one n : ℕ) where
 
 -- values put over bits are there alone
 pub values-over : (t : Thresholds) (strip : List ℕ) (one two n copy : ℕ) (out : List ℕ) {bits out' : List ℕ} → n ≤ length out
-    → bits ≡ sets out 0 (tabulate (bits_of t strip copy) (n - 0) 0) → out' ≡ sets bits 0 (values_at (classes t strip) one two n)
+    → bits ≡ sets out 0 (tabulate (bits_of t strip copy) n 0) → out' ≡ sets bits 0 (values_at (classes t strip) one two n)
     → out' ≡ sets out 0 (values_at (classes t strip) one two n)
 values-over t strip one two n copy out room e s =
-    let z : n - 0 ≡ n = omega arith in
-    s ∙ rw (e, z) (sets_over (bits_of t strip copy) (value_at (classes t strip) one two) n 0 out (omega arith))
+    s ∙ rw e (sets_over (bits_of t strip copy) (value_at (classes t strip) one two) n 0 out (omega arith))
 
 -- ---- Values put part by part: with those below i put, the rest put after them gives the whole
 
@@ -149,22 +142,3 @@ module _ (cs : List Class) (one two n : ℕ) (out₀ : List ℕ) where
   values-there {out} {i} {end} h l room u there =
       let long = u.long in
       values-next h l u (sym (sets-there (value_at cs one two) (end - i) i out (omega arith) (λ j a b. there j a (omega arith))))
-
--- ---- Runs
-
-beq_same : (a b : Bool) → not (beq a b) ≡ false → a ≡ b
-beq_same true true e = refl
-beq_same true false e = absurd (let z : ◌≡◌ {A = ℕ} 0 1 = cc in omega arith)
-beq_same false true e = absurd (let z : ◌≡◌ {A = ℕ} 0 1 = cc in omega arith)
-beq_same false false e = refl
-
-module _ (row : List ℕ) (i : ℕ) where
-  pub run-begun : (i < 16 * (group_of i + 1)) × SameFlags row i (16 * (group_of i + 1))
-  run-begun = (omega arith, λ j a b. ap (flag_at row) (omega arith))
-
-  pub run-next : (group : ℕ) {here up : Bool} → SameFlags row i (16 * group) → here ≡ flag_at row group → up ≡ flag_at row (group_of i) → not (beq here up) ≡ false
-      → SameFlags row i (16 * (group + 1))
-  run-next group {here} {up} u e f d j a b = elim (dec_lt j (16 * group)) [
-    | yes l ↦ u j a l
-    | no l ↦ ap (flag_at row) (let z : group_of j ≡ group = omega arith in z) ∙ sym e ∙ beq_same here up d ∙ f
-  ]

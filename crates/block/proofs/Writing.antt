@@ -7,9 +7,8 @@ use native.Mathlib.Omega.{arith}
 use mathlib.Core.Path.{◌≡◌, refl, sym, ap, ◌∙◌}
 use mathlib.Core.Bool.{true, false}
 use mathlib.Core.List.{List, [], ◌∷◌, ◌++◌, append-nil, append_assoc}
-use lib.Bits.{bit_xor}
-use lib.ListN.{length, take, drop, get_or, set, replicate, length-replicate, length-map, length-take, length-drop, drop_of_length-le}
-use lib.Seq.{sets, sets-eq, drop-drop, drop-cons}
+use lib.ListN.{length, take, drop, set, replicate, length-replicate, length-map, length-take, length-drop}
+use lib.Seq.{sets, sets-eq, drop-drop}
 use Rattle.lists.specs.Places.{part}
 use Rattle.lists.proofs.BufferLaws.{put-room, sets-lent}
 use Rattle.lists.proofs.LoopLaws.{put-begun, put_next, put-done}
@@ -27,19 +26,9 @@ use Rattle.byte.specs.Byte.{bytes_classes, bytes_pulses, write_bytes}
 use Rattle.byte.proofs.CodingLaws.{length-bytes, length-bytes_pulses}
 use Rattle.byte.proofs.Stores.{write_bytes-stored}
 use Rattle.start.specs.Copies.{copy_pulses, copy_two, end_of}
-use Rattle.block.specs.Block.{xor_from, checksum, countdown, copy_bytes, copy_classes, trailer, block_classes, block_pulses, wrong_size, wrong_leader, measure_block, write_block, block_length}
+use Rattle.block.specs.Block.{checksum, countdown, copy_bytes, copy_classes, trailer, block_classes, block_pulses, wrong_size, wrong_leader, measure_block, write_block, block_length}
 use borrow.Rule.Slice.PartMut.{put_mid}
 use Rattle.block.proofs.BlockLaws.{bytes-append, length-countdown, length-copy, length-block_pulses, measure_block-accepted}
-
--- ---- The checksum
-
-pub sum-next : (x i : ℕ) (bytes : List ℕ) → i < length bytes → xor_from (bit_xor x (get_or bytes i 0)) (drop (i + 1) bytes) ≡ xor_from x (drop i bytes)
-unfolding xor_from
-sum-next x i bytes h = rw (add-one, drop-cons bytes i 0 h)
-
-pub sum_done : (x i : ℕ) (bytes : List ℕ) → length bytes ≤ i → x ≡ xor_from x (drop i bytes)
-unfolding xor_from
-sum_done x i bytes h = rw (drop_of_length-le bytes h)
 
 -- ---- Short pulses
 

@@ -1,6 +1,5 @@
 -- What holds of the causes of bad bytes (document 02, Q-6).
-use Rattle.std.specs.Prelude.{ℕ, ◌+◌, ◌*◌, ◌≤◌, ◌<◌, ◌≡◌, false, ◌&&◌, List, [], ◌∷◌}
-use Rattle.std.specs.Prelude.{None, Some}
+use Rattle.std.specs.Prelude.{ℕ, ◌+◌, ◌*◌, ◌≤◌, ◌<◌, ◌≡◌, false, ◌&&◌, List, [], ◌∷◌, None, Some}
 use Rattle.lists.specs.Places.{count_below}
 use Rattle.refusal.specs.Refusal.{Why}
 use Rattle.refusal.specs.Outcome.{refused, accepted}

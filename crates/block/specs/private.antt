@@ -3,3 +3,4 @@ pub mod Flags
 pub mod Values
 pub mod Checks
 pub mod Causes
+pub mod Both

@@ -14,20 +14,20 @@ pub const ROW_BYTES: usize = super::MOST_BYTES / (GROUP_PLACES * BYTE_FLAGS);
 pub fn flag(row: &[u8], i: usize) -> bool
     ensures { result ≡ flag_at row.now i }
 {
-    let at = i / BYTE_FLAGS;
-    if row.len() <= at {
+    let Some(byte) = row.get(i / BYTE_FLAGS) else {
         return false;
-    }
-    (row[at] >> (i % BYTE_FLAGS)) % 2 == 1
+    };
+    (*byte >> (i % BYTE_FLAGS)) % 2 == 1
 }
 
 // Raises a flag of a row; past the row's end there is none to raise.
 pub fn raise_flag(row: &mut [u8], i: usize)
     ensures { row.new ≡ raised row.old i }
 {
+    // With `get_mut` the proof did not close: the row after it has no name there.
     let at = i / BYTE_FLAGS;
     if row.len() <= at {
         return;
     }
-    row[at] = row[at] | (1 << (i % BYTE_FLAGS));
+    row[at] |= 1 << (i % BYTE_FLAGS);
 }

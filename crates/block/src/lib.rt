@@ -9,19 +9,22 @@
 mod copies;
 mod flags;
 mod looking;
+mod places;
 mod rules;
 mod values;
 mod write;
 
-ghost use Rattle.std.specs.Prelude.{◌≡◌, length};
+ghost use Rattle.std.specs.Prelude.{◌≡◌, length, get_or};
 ghost use Rattle.refusal.specs.Outcome.{outcome_of};
 ghost use Rattle.refusal.specs.Promise.{Written};
 ghost use Rattle.pulse.specs.Pulse.{fixed, classes};
 ghost use Rattle.block.specs.Block.{wrong_size, wrong_leader, measure_block, write_block};
 ghost use Rattle.start.specs.Start.{find_start, start_at};
-ghost use Rattle.block.specs.Reading.{place_value, read_block, BlockPromise};
-ghost use Rattle.block.specs.Looking.{no_bad, copies_at, look_at, look_answer, place_read, read_place, place_answer};
+ghost use Rattle.byte.specs.declared.ByteRead.TheVariants.{Bad};
+ghost use Rattle.block.specs.Reading.{place_of, place_value, read_block, BlockPromise};
+ghost use Rattle.block.specs.Looking.{each_cause, cause_numbers, copies_at, look_at, look_answer, place_read, read_place, place_answer};
 
+use byte::{ByteRead, CAUSES};
 use copies::BothCopies;
 use pulse::Thresholds;
 use refusal::{Causes, Reason, Refusal};
@@ -34,7 +37,8 @@ pub const LEAST_LEADER: usize = 64;
 
 pub const MOST_LEADER: usize = 65535;
 
-// The countdown of copy one, and that of copy two.
+// The countdown of copy one, and that of copy two. Byte by byte, as document 01 has them: by sums from `start::FIRST_OF_ONE` they would be no
+// plainer.
 const COUNTDOWNS: [[u8; start::COUNTDOWN_BYTES]; 2] = [
     [0x89, 0x88, 0x87, 0x86, 0x85, 0x84, 0x83, 0x82, 0x81],
     [0x09, 0x08, 0x07, 0x06, 0x05, 0x04, 0x03, 0x02, 0x01],
@@ -66,11 +70,49 @@ pub struct ByCause {
     pub ones: u64,
 }
 
-impl ByCause {
-    pub fn none() -> ByCause
-        ensures { result ≡ no_bad }
-    {
-        ByCause::default()
+// The counts in the order of the causes' numbers, and each by its cause.
+impl From<[u64; CAUSES]> for ByCause {
+    ghost from_gives = { λ counts bad. bad ≡ each_cause (λ cause. get_or counts cause 0) };
+
+    fn from(counts: [u64; CAUSES]) -> ByCause {
+        let [
+            marker,
+            bit0,
+            bit1,
+            bit2,
+            bit3,
+            bit4,
+            bit5,
+            bit6,
+            bit7,
+            parity,
+            ones,
+        ] = counts;
+        ByCause {
+            marker,
+            bit0,
+            bit1,
+            bit2,
+            bit3,
+            bit4,
+            bit5,
+            bit6,
+            bit7,
+            parity,
+            ones,
+        }
+    }
+}
+
+impl From<ByCause> for [u64; CAUSES] {
+    ghost from_gives = { λ bad counts. counts ≡ cause_numbers bad };
+
+    fn from(bad: ByCause) -> [u64; CAUSES] {
+        let counts: [u64; CAUSES] = [
+            bad.marker, bad.bit0, bad.bit1, bad.bit2, bad.bit3, bad.bit4, bad.bit5, bad.bit6,
+            bad.bit7, bad.parity, bad.ones,
+        ];
+        counts
     }
 }
 
@@ -100,13 +142,32 @@ pub enum PlaceRead {
 }
 
 impl PlaceRead {
-    // The value, which is 0 where the place is lost.
+    // Rule 4 for the bytes of both copies: copy one's value where that byte is good, else copy two's.
+    pub fn of(one: ByteRead, two: ByteRead) -> PlaceRead
+        ensures { place_read result ≡ place_of one two }
+    {
+        match one {
+            ByteRead::Good(value) => PlaceRead::One(value),
+            ByteRead::Bad(cause) => PlaceRead::of_two(cause, two),
+        }
+    }
+
+    // The same where copy one's byte is bad. Two functions: one match in the other takes more stack in the deck.
+    fn of_two(one: u8, two: ByteRead) -> PlaceRead
+        ensures { place_read result ≡ place_of (Bad one) two }
+    {
+        match two {
+            ByteRead::Good(value) => PlaceRead::Two(value),
+            ByteRead::Bad(two) => PlaceRead::Neither(Causes { one, two }),
+        }
+    }
+
+    // The value. Where the place is lost it is 0, as the definition has it, so that the sum over all places can be taken.
     pub fn value(self) -> u8
         ensures { result ≡ place_value (place_read self) }
     {
         match self {
-            PlaceRead::One(value) => value,
-            PlaceRead::Two(value) => value,
+            PlaceRead::One(value) | PlaceRead::Two(value) => value,
             PlaceRead::Neither(_) => 0,
         }
     }

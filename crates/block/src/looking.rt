@@ -2,18 +2,18 @@
 ghost use Rattle.std.specs.Prelude.{◌+◌, ◌^◌, ◌≤◌, ◌<◌, ◌≡◌, get_or};
 ghost use Rattle.lists.specs.Places.{Below};
 ghost use Rattle.refusal.specs.Outcome.{refused_with, mapped, outcome_of};
-ghost use Rattle.pulse.specs.Pulse.{classes};
-ghost use Rattle.byte.specs.Byte.{byte_at};
+ghost use Rattle.byte.specs.Byte.{value_in, byte_at};
 ghost use Rattle.start.specs.Copies.{byte_place};
-ghost use Rattle.block.specs.Reading.{place_at, extent_of, read_copies};
-ghost use Rattle.block.specs.Looking.{each_cause, tally_of, no_tally, look_answer, place_read};
+ghost use Rattle.block.specs.Reading.{place_at, extent_of};
+ghost use Rattle.block.specs.Looking.{each_cause, no_tally, look_answer, place_read};
 ghost use Rattle.block.specs.private.Checks.{values_checked};
+ghost use Rattle.block.specs.private.Both.{classes_of, read_both, tally_both};
 ghost use Rattle.block.specs.private.Causes.{with_byte, with_place};
 
 use super::copies::BothCopies;
 use super::{ByCause, Look, PlaceRead, Tally};
 use byte::{ByteRead, CAUSES};
-use refusal::{Causes, Reason, Refusal};
+use refusal::{Reason, Refusal};
 use start::COUNTDOWN_BYTES;
 
 // Whether rules 4 and 5 hold, and the counts.
@@ -36,7 +36,7 @@ pub fn refused(r: Refusal) -> Look
 impl<'a> BothCopies<'a> {
     // Rules 3 to 5.
     pub fn look(&self) -> Look
-        ensures { look_answer result ≡ record { outcome = mapped extent_of (read_copies (classes self.now.t self.now.strip.now) self.now.one self.now.n); tally = tally_of (classes self.now.t self.now.strip.now) self.now.one self.now.two self.now.n } }
+        ensures { look_answer result ≡ record { outcome = mapped extent_of (read_both self.now); tally = tally_both self.now } }
     {
         let countdown = self.check_countdown();
         let counted = self.count_places();
@@ -49,14 +49,15 @@ impl<'a> BothCopies<'a> {
 
     // Rules 4 and 5 at places 0 to n, and the bad bytes there. A lost place counts as 0 in the sum.
     fn count_places(&self) -> Counted
-        ensures check { outcome_of result.check ≡ values_checked (classes self.now.t self.now.strip.now) self.now.one self.now.two self.now.n tt }
-        ensures tally { result.tally ≡ tally_of (classes self.now.t self.now.strip.now) self.now.one self.now.two self.now.n }
+        ensures check { outcome_of result.check ≡ values_checked (classes_of self.now) self.now.one self.now.two self.now.n tt }
+        ensures tally { result.tally ≡ tally_both self.now }
     {
         let mut sum: u8 = 0;
         let mut repaired: usize = 0;
         let mut lost: usize = 0;
         let mut check: Result<(), Refusal> = Ok(());
         let mut bad = [0u64; CAUSES];
+        // With `..=` the proof did not close: it lacks that the range is over.
         for i in 0..self.n + 1 {
             match self.count_place(i, &mut bad) {
                 PlaceRead::One(value) => {
@@ -78,7 +79,7 @@ impl<'a> BothCopies<'a> {
                 one: self.n + 1 - repaired - lost,
                 two: repaired,
                 lost,
-                bad: by_cause(&bad),
+                bad: ByCause::from(bad),
             },
         }
     }
@@ -86,63 +87,37 @@ impl<'a> BothCopies<'a> {
     // Rule 4 at place i, where the bad bytes of both copies are counted. `read_place`, which looks at copy two only where copy one is bad, is faster.
     fn count_place(&self, i: usize, bad: &mut [u64; CAUSES]) -> PlaceRead
         requires { (i ≤ self.now.n) × Below (2 ^ 62) bad.old }
-        ensures place { place_read result ≡ place_at (classes self.now.t self.now.strip.now) self.now.one self.now.two i }
-        ensures bad_after { bad.new ≡ with_place (classes self.now.t self.now.strip.now) self.now.one self.now.two i bad.old }
+        ensures place { place_read result ≡ place_at (classes_of self.now) self.now.one self.now.two i }
+        ensures bad_after { bad.new ≡ with_place (classes_of self.now) self.now.one self.now.two i bad.old }
     {
-        let first = self.count_byte(self.one, COUNTDOWN_BYTES + i, bad);
-        let second = self.count_byte(self.two, COUNTDOWN_BYTES + i, bad);
-        match first {
-            ByteRead::Good(value) => PlaceRead::One(value),
-            ByteRead::Bad(one) => match second {
-                ByteRead::Good(value) => PlaceRead::Two(value),
-                ByteRead::Bad(two) => PlaceRead::Neither(Causes { one, two }),
-            },
-        }
+        let j = COUNTDOWN_BYTES + i;
+        // Both are read before one is counted, for speed.
+        let in_one = self.value(self.one, j);
+        let in_two = self.value(self.two, j);
+        let first = self.count_byte(self.one, j, in_one, bad);
+        let second = self.count_byte(self.two, j, in_two, bad);
+        PlaceRead::of(first, second)
     }
 
-    // The byte at byte place j of a copy, which is counted by its cause where it is bad.
-    fn count_byte(&self, copy: usize, j: usize, bad: &mut [u64; CAUSES]) -> ByteRead
-        requires { (copy ≤ self.now.two) × (j < self.now.n + 10) × Below (2 ^ 63) bad.old }
-        ensures byte { result ≡ byte_at (classes self.now.t self.now.strip.now) (byte_place copy j) }
-        ensures bad_after { bad.new ≡ with_byte (byte_at (classes self.now.t self.now.strip.now) (byte_place copy j)) bad.old }
+    // The byte at byte place j of a copy, by its value, where it has one. It is counted by its cause where it is bad.
+    fn count_byte(
+        &self,
+        copy: usize,
+        j: usize,
+        read: Option<u8>,
+        bad: &mut [u64; CAUSES],
+    ) -> ByteRead
+        requires place { (copy ≤ self.now.two) × (j < self.now.n + 10) }
+        requires read { read ≡ value_in (byte_at (classes_of self.now) (byte_place copy j)) }
+        requires counts { Below (2 ^ 63) bad.old }
+        ensures byte { result ≡ byte_at (classes_of self.now) (byte_place copy j) }
+        ensures bad_after { bad.new ≡ with_byte (byte_at (classes_of self.now) (byte_place copy j)) bad.old }
     {
-        if let Some(value) = self.value(copy, j) {
-            return ByteRead::Good(value);
-        }
-        let cause = self.cause(copy, j);
-        bad[cause as usize] = bad[cause as usize] + 1;
-        ByteRead::Bad(cause)
-    }
-}
-
-// The counts, each by its cause.
-fn by_cause(bad: &[u64; CAUSES]) -> ByCause
-    ensures { result ≡ each_cause (λ cause. get_or bad.now cause 0) }
-{
-    let [
-        marker,
-        bit0,
-        bit1,
-        bit2,
-        bit3,
-        bit4,
-        bit5,
-        bit6,
-        bit7,
-        parity,
-        ones,
-    ] = *bad;
-    ByCause {
-        marker,
-        bit0,
-        bit1,
-        bit2,
-        bit3,
-        bit4,
-        bit5,
-        bit6,
-        bit7,
-        parity,
-        ones,
+        let Some(value) = read else {
+            let cause = self.cause(copy, j);
+            bad[usize::from(cause)] += 1;
+            return ByteRead::Bad(cause);
+        };
+        ByteRead::Good(value)
     }
 }

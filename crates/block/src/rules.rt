@@ -2,8 +2,9 @@
 ghost use Rattle.std.specs.Prelude.{◌*◌, ◌≤◌, ◌<◌, ◌≡◌, eqb, length};
 ghost use Rattle.refusal.specs.Outcome.{outcome_of};
 ghost use Rattle.pulse.specs.Pulse.{classes};
-ghost use Rattle.block.specs.Reading.{is_counted, read_copies, read_at, BlockPromise};
-ghost use Rattle.block.specs.private.Checks.{has_value, countdown_checked, sum_checked, Checked};
+ghost use Rattle.block.specs.Reading.{is_counted, read_at, BlockPromise};
+ghost use Rattle.block.specs.private.Both.{classes_of, read_both};
+ghost use Rattle.block.specs.private.Checks.{countdown_checked, sum_checked, Checked};
 
 use super::copies::BothCopies;
 use super::{COUNTDOWNS, Extent, PlaceRead, flags};
@@ -30,7 +31,7 @@ impl<'a> BothCopies<'a> {
     // Rules 3 to 5. Nothing is put before all of them hold. A row of flags tells the groups of places in which one is repaired.
     fn read_payload(&self, out: &mut [u8]) -> Result<Extent, Refusal>
         requires { (self.now.n ≤ 8192) × (self.now.n ≤ length out.old) }
-        ensures { BlockPromise (read_copies (classes self.now.t self.now.strip.now) self.now.one self.now.n) out.old result out.new }
+        ensures { BlockPromise (read_both self.now) out.old result out.new }
     {
         self.check_countdown()?;
         let mut row = [0u8; flags::ROW_BYTES];
@@ -42,8 +43,9 @@ impl<'a> BothCopies<'a> {
     // Rule 3. It refuses the first countdown place where neither copy holds its byte.
     #[inline(always)]
     pub fn check_countdown(&self) -> Result<(), Refusal>
-        ensures { outcome_of result ≡ countdown_checked (classes self.now.t self.now.strip.now) self.now.one self.now.two tt }
+        ensures { outcome_of result ≡ countdown_checked (classes_of self.now) self.now.one self.now.two tt }
     {
+        // With `find` it would be no plainer: the closure would have to say that i is below nine, as `is_counted` asks.
         for i in 0..COUNTDOWN_BYTES {
             if !self.is_counted(i) {
                 return Err(Refusal::at(Reason::WrongCountdown, i));
@@ -53,25 +55,24 @@ impl<'a> BothCopies<'a> {
     }
 
     // Rule 3 at countdown place i.
+    #[inline(always)]
     fn is_counted(&self, i: usize) -> bool
         requires { i < 9 }
-        ensures { result ≡ is_counted (classes self.now.t self.now.strip.now) self.now.one self.now.two i }
+        ensures { result ≡ is_counted (classes_of self.now) self.now.one self.now.two i }
     {
-        if has_value(self.value(self.one, i), COUNTDOWNS[0][i]) {
-            return true;
-        }
-        has_value(self.value(self.two, i), COUNTDOWNS[1][i])
+        (self.value(self.one, i) == Some(COUNTDOWNS[0][i]))
+            || (self.value(self.two, i) == Some(COUNTDOWNS[1][i]))
     }
 
     // Rules 4 and 5: how many places are repaired, the checksum's among them. It refuses the first lost place, with its causes, and a checksum
     // that does not hold for the repaired values. The flag of a repaired place's group is raised.
     fn check_values(&self, row: &mut [u8]) -> Result<usize, Refusal>
         requires { self.now.n ≤ 128 * length row.old }
-        ensures { Checked (classes self.now.t self.now.strip.now) self.now.one self.now.two self.now.n result row.new }
+        ensures { Checked (classes_of self.now) self.now.one self.now.two self.now.n result row.new }
     {
         let mut sum: u8 = 0;
         let mut repaired: usize = 0;
-        // With `..=` the proof lacks that the range is over.
+        // With `..=` the proof did not close: it lacks that the range is over.
         for i in 0..self.n + 1 {
             match self.read_place(i) {
                 PlaceRead::One(first) => {
@@ -100,14 +101,4 @@ impl<'a> BothCopies<'a> {
             Err(Refusal::at(Reason::WrongChecksum, self.n))
         }
     }
-}
-
-// Whether a byte is good, with this value.
-fn has_value(read: Option<u8>, value: u8) -> bool
-    ensures { result ≡ has_value value read }
-{
-    let Some(read) = read else {
-        return false;
-    };
-    read == value
 }

@@ -28,12 +28,7 @@ pub fn put_block(payload: &[u8], leader: usize, out: &mut [u32])
 fn checksum_of(payload: &[u8]) -> u8
     ensures { result ≡ checksum payload.now }
 {
-    // With `fold` the proof did not close: its closure changes with each byte.
-    let mut sum: u8 = 0;
-    for byte in payload {
-        sum ^= *byte;
-    }
-    sum
+    payload.iter().fold(0, |sum, byte| sum ^ *byte)
 }
 
 fn put_shorts(out: &mut [u32], at: usize, count: usize)
@@ -44,7 +39,7 @@ fn put_shorts(out: &mut [u32], at: usize, count: usize)
     out[at..at + count].fill(short.0);
 }
 
-// Puts copy one, which is copy 0 here, or copy two, which is copy 1: the index into the countdowns.
+// Puts copy one, which is copy 0 here, or copy two, which is copy 1: the index into the countdowns, as the definitions have it.
 fn put_copy(out: &mut [u32], at: usize, copy: usize, payload: &[u8], sum: u8)
     requires small { (copy < 2) × (at + copy_pulses (length payload.now) ≤ length out.old) }
     requires summed { sum ≡ checksum payload.now }

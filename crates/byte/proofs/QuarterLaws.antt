@@ -1,12 +1,11 @@
 -- A byte's eight bits as four quarters, whose pulses stand in a table.
-use Rattle.std.proofs.Common.{◌≡◌, ℕ, zero, suc, ◌+◌, ◌-◌, ◌*◌, ◌/◌, ◌%◌, ◌^◌, ◌<◌, ◌≤◌, List, [], ◌++◌, length, get_or, set, refl, ap, ◌∙◌, add-zero, zero-add, arith, drop_of_length-le}
+use Rattle.std.proofs.Common.{◌≡◌, ℕ, zero, suc, ◌+◌, ◌-◌, ◌*◌, ◌/◌, ◌%◌, ◌<◌, ◌≤◌, List, [], ◌++◌, length, get_or, set, ap, ◌∙◌, add-zero, zero-add, arith, drop_of_length-le}
 use native.Mathlib.Nat.{mul-add-mod_self_left}
-use lib.ListN.{length-map, get_or-map}
+use lib.ListN.{length-map}
 use lib.Seq.{sets}
-use Rattle.lists.proofs.LoopLaws.{Putting, Copied, put-begun, copy-next, put-done}
-use Rattle.pulse.specs.declared.Class.TheVariants.{Noise}
+use Rattle.lists.proofs.LoopLaws.{Putting, Copied, copy-next, put-done}
 use Rattle.pulse.specs.Pulse.{written_as, pulses}
-use Rattle.pulse.proofs.PulseLaws.{written-lt, put-pulses}
+use Rattle.pulse.proofs.PulseLaws.{put-pulses}
 use Rattle.byte.specs.Byte.{bits, coded}
 use Rattle.byte.specs.private.Quarters.{quarter, quarters_from, quarters}
 use Rattle.byte.proofs.CodingLaws.{coded-append, length-coded_bits}
@@ -24,9 +23,6 @@ row_from (suc count) at (suc n) h = row_from count (suc at) n (omega arith) ∙ 
 
 row_at : {table : List (List ℕ)} (n : ℕ) → table ≡ quarters → n < 4 → get_or table n [] ≡ quarter n
 row_at n e h = rw e (row_from 4 0 n h ∙ ap quarter (zero-add n))
-
-pub row_fits : {table : List (List ℕ)} (n i : ℕ) → table ≡ quarters → n < 4 → get_or (get_or table n []) i 0 < 2 ^ 32
-row_fits n i e h = let cs = coded (bits 2 n) in rw (row_at n e h, get_or-map written_as cs i Noise) (written-lt (get_or cs i Noise))
 
 -- ---- A quarter is copied from its row
 
@@ -55,9 +51,6 @@ coded-two k v = ap coded (bits-two k v) ∙ coded-append (bits 2 (v % 4)) (bits 
 module _ (out₀ : List ℕ) (at b : ℕ) where
   abbrev pub BitsPut : List ℕ → (rest i : ℕ) → Type 0
   BitsPut out rest i = Putting out₀ at (pulses (coded (bits 8 b))) out (at + 4 * i) (pulses (coded (bits (8 - 2 * i) rest)))
-
-  pub BitsPut-begun : BitsPut out₀ b 0
-  BitsPut-begun = put-begun out₀ at (at + 4 * 0) _ _ (omega arith) refl
 
   module _ (rest : ℕ) {out : List ℕ} {i : ℕ} (u : BitsPut out rest i) where
     pub BitsPut-next : {out' : List ℕ} → i < 4 → out' ≡ sets out (at + 4 * i) (quarter (rest % 4)) → BitsPut out' (rest / 4) (i + 1)

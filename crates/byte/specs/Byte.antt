@@ -1,6 +1,5 @@
 -- Bytes (document 01, 'Bytes'), on the classes of pulses.
 use Rattle.std.specs.Prelude.{ℕ, zero, suc, ◌+◌, ◌*◌, ◌/◌, ◌%◌, Bool, true, false, cond, not, ◌&&◌, ◌||◌, List, [], ◌∷◌, ◌++◌, length, ◌==◌, count_ones, nat_lt, slice_index_or, Option, None, Some}
-use Rattle.std.specs.Prelude.{Option, None, Some}
 use Rattle.lists.specs.Places.{first_from, tabulate, part}
 use Rattle.refusal.specs.Outcome.{Outcome, accepted, if_room}
 use Rattle.pulse.specs.declared.Class.{Class}

@@ -12,7 +12,7 @@ use pulse::{Cycles, Thresholds};
 // Where the second pulses' bits begin in a word, and the place value there.
 const SECOND_HALF: usize = 16;
 
-const HALF: u32 = 65536;
+const HALF: u32 = 1 << SECOND_HALF;
 
 // The short threshold, and how far above it medium, long and noise begin. Long is at least medium.
 #[derive(Clone, Copy)]
@@ -40,7 +40,8 @@ impl Bounds {
     }
 
     // The value of a frame. Bit i of the word says that pair i's first pulse is not nearer than medium, and bit 16 + i that its second is not.
-    // The loop's end is no constant, so that the compiler unrolls it only where this is inlined, and inlines it at every call.
+    // Inlined at every call, so that the loop is unrolled for twenty pulses, and before a loop over frames the bounds are made once.
+    #[inline(always)]
     pub fn decode(self, frame: &[u32]) -> Option<u8>
         ensures { result ≡ read_frame (map (class_in self) frame.now) }
     {
@@ -53,10 +54,11 @@ impl Bounds {
         let marked = self.is_marker(Cycles(frame[0]), Cycles(frame[1]));
         let mut word: u32 = 0;
         let mut out = false;
+        // The index is the place of the pulse's bit too.
         for i in PAIR_PULSES..frame.len() {
-            let far = self.distance(Cycles(frame[i])).0;
-            out |= self.long.0 <= far;
-            word |= ((self.medium.0 <= far) as u32)
+            let far = self.distance(Cycles(frame[i]));
+            out |= self.long <= far;
+            word |= u32::from(self.medium <= far)
                 << (i / PAIR_PULSES + i % PAIR_PULSES * SECOND_HALF);
         }
         close(word, marked & !out & (frame.len() == BYTE_PULSES))
@@ -69,15 +71,13 @@ impl Bounds {
         Cycles(pulse.0.wrapping_sub(self.short.0))
     }
 
+    // As `super::is_marker`, by the distances, which are there already.
     fn is_marker(self, first: Cycles, second: Cycles) -> bool
         ensures { result ≡ (pair_of (class_in self first.0) (class_in self second.0)).marker }
     {
-        let long = self.distance(first).0;
-        let medium = self.distance(second).0;
-        (self.long.0 <= long)
-            & (long < self.noise.0)
-            & (self.medium.0 <= medium)
-            & (medium < self.long.0)
+        let long = self.distance(first);
+        let medium = self.distance(second);
+        (self.long <= long) & (long < self.noise) & (self.medium <= medium) & (medium < self.long)
     }
 }
 
@@ -90,9 +90,5 @@ fn close(word: u32, sound: bool) -> Option<u8>
     let second = word / HALF / FIRST;
     let value = (first % VALUES) as u8;
     let odd = super::is_odd(u8::count_ones(value) + first / VALUES);
-    if (first + second == PARITY - 1) & odd & sound {
-        Some(value)
-    } else {
-        None
-    }
+    ((first + second == PARITY - 1) & odd & sound).then_some(value)
 }

@@ -1,5 +1,6 @@
 // The pulses of a byte, put one part after the other. Its eight bits are put in quarters, from a table. Each function takes the buffer and a
-// place: a struct of both would be no plainer, since each promise says by `sets` what is put where, and that all else stays.
+// place: a struct of both would be no plainer, since each promise says by `sets` what is put where, and that all else stays. So the loops here
+// count places in the output.
 ghost use Rattle.std.specs.Prelude.{◌≡◌, ◌+◌, ◌<◌, ◌≤◌, [], ◌∷◌, length};
 ghost use Rattle.std.proofs.lemmas.List.Edits.{sets};
 ghost use Rattle.pulse.specs.Pulse.{pulses};
@@ -54,7 +55,7 @@ impl Quarters {
         requires { at + 16 ≤ length out.old }
         ensures { out.new ≡ sets out.old at (pulses (coded (bits 8 b))) }
     {
-        let mut rest = b as usize;
+        let mut rest = usize::from(b);
         for i in 0..QUARTERS {
             self.put_quarter(out, at + QUARTER_PULSES * i, rest % QUARTER_VALUES);
             rest /= QUARTER_VALUES;

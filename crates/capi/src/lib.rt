@@ -1,5 +1,6 @@
 // The C interface: the library's calls with plain structs for their answers, as `include/crumbthistle.h` declares them. A slice is a
-// pointer and a length in C. Every answer but that of reading a byte begins with its refusal.
+// pointer and a length in C. Every answer but that of reading a byte begins with its refusal. Between `usize` and `u64` it is `as`: there is no
+// From.
 #![tactic(auto)]
 
 ghost use Rattle.std.specs.Prelude.{◌≡◌, [], ◌∷◌, length};
@@ -13,11 +14,13 @@ ghost use Rattle.deck.specs.Calls.{lent, begin_deck, take_run, take_end, said_by
 ghost use Rattle.header.specs.Header.{pack_header, unpack_header, shown_span};
 ghost use Rattle.file.specs.File.{file, write_file};
 ghost use Rattle.file.specs.Reading.{read_file};
-ghost use Rattle.wear.specs.Walk.{step_from, tried_block, step_answer};
+ghost use Rattle.wear.specs.Walk.{step_from, tried_block};
 ghost use Rattle.wear.specs.Report.{report_strip};
 ghost use Rattle.tap.specs.Tap.{write_tap};
 ghost use Rattle.tap.specs.Reading.{read_tap};
-ghost use Rattle.capi.specs.Flat.{no_refusal, flat_refusal, flat_byte, flat_put, flat_block, told_struct, flat_told, lone_header, flat_file, flat_tap, flat_span, totals_of, wear_of, flat_report, spot_of, walk_of, flat_tried, flat_step, PutFlat, BlockFlat, FileFlat, TapFlat};
+ghost use Rattle.capi.specs.Flat.{flat_refusal, flat_byte, flat_put, flat_block, told_struct, flat_told, lone_header, flat_file, flat_tap, flat_span};
+ghost use Rattle.capi.specs.Flat.{totals_of, wear_of, flat_report, spot_of, walk_of, flat_tried, flat_step};
+ghost use Rattle.capi.specs.Flat.{PutFlat, BlockFlat, FileFlat, TapFlat};
 
 use block::{ByCause, Extent};
 use byte::ByteRead;
@@ -32,7 +35,7 @@ use wear::{Spot, Totals, Trial, Tried};
 // Why a call refuses: the number of the refusal, the block and the place; with refusal 6 also why the lost byte is bad in copy one and in copy
 // two. All are 0 where it accepts; where it refuses, all numbers of the answer after the refusal are 0, but for those of a report and of a step.
 #[repr(C)]
-#[derive(Clone, Copy)]
+#[derive(Clone, Copy, Default)]
 pub struct TapeRefusal {
     pub number: u32,
     pub block: u32,
@@ -43,7 +46,7 @@ pub struct TapeRefusal {
 
 // What reading a byte answers: whether it is good, the value of a good one, and the cause of a bad one.
 #[repr(C)]
-#[derive(Clone, Copy)]
+#[derive(Clone, Copy, Default)]
 pub struct TapeByte {
     pub good: u32,
     pub value: u32,
@@ -52,7 +55,7 @@ pub struct TapeByte {
 
 // What a writer answers: how many pulses or bytes were put.
 #[repr(C)]
-#[derive(Clone, Copy)]
+#[derive(Clone, Copy, Default)]
 pub struct TapePut {
     pub refusal: TapeRefusal,
     pub count: u64,
@@ -60,7 +63,7 @@ pub struct TapePut {
 
 // What the block reader answers: payload bytes, start, and the place after copy two.
 #[repr(C)]
-#[derive(Clone, Copy)]
+#[derive(Clone, Copy, Default)]
 pub struct TapeBlock {
     pub refusal: TapeRefusal,
     pub n: u64,
@@ -70,7 +73,7 @@ pub struct TapeBlock {
 
 // What the last call for a deck said: nothing yet (told 0), the answer as the block reader's (1), or that it was refused (2).
 #[repr(C)]
-#[derive(Clone, Copy)]
+#[derive(Clone, Copy, Default)]
 pub struct TapeTold {
     pub refusal: TapeRefusal,
     pub told: u32,
@@ -81,7 +84,7 @@ pub struct TapeTold {
 
 // What the file reader and unpacking a header answer: type, addresses, and the end of the data block. The kind is the type.
 #[repr(C)]
-#[derive(Clone, Copy)]
+#[derive(Clone, Copy, Default)]
 pub struct TapeFile {
     pub refusal: TapeRefusal,
     pub kind: u32,
@@ -92,7 +95,7 @@ pub struct TapeFile {
 
 // What the TAP reader answers: version, and how many durations were put.
 #[repr(C)]
-#[derive(Clone, Copy)]
+#[derive(Clone, Copy, Default)]
 pub struct TapeTap {
     pub refusal: TapeRefusal,
     pub version: u32,
@@ -101,7 +104,7 @@ pub struct TapeTap {
 
 // What the shown name's call answers: the part of the lent header that holds it.
 #[repr(C)]
-#[derive(Clone, Copy)]
+#[derive(Clone, Copy, Default)]
 pub struct TapeSpan {
     pub refusal: TapeRefusal,
     pub offset: u64,
@@ -135,7 +138,7 @@ pub struct TapeReport {
 // Where a walk stands: the place from which the next start is looked for, and how many bytes the data block has that is tried there. With
 // length 0 a header is tried.
 #[repr(C)]
-#[derive(Clone, Copy)]
+#[derive(Clone, Copy, Default)]
 pub struct TapeWalk {
     pub from: u64,
     pub length: u64,
@@ -145,7 +148,7 @@ pub struct TapeWalk {
 // two, and lost, its bad bytes by their causes, and where the walk goes on. A block that is found and refused has an end of 0; all its other
 // numbers are told.
 #[repr(C)]
-#[derive(Clone, Copy)]
+#[derive(Clone, Copy, Default)]
 pub struct TapeWalked {
     pub refusal: TapeRefusal,
     pub found: u32,
@@ -244,7 +247,8 @@ pub extern "C" fn tape_write_file(
     leader1: u64,
     out: &mut [u32],
 ) -> TapePut
-    ensures { PutFlat (write_file (length out.old) (file (record { kind = kind; start = start; end = end }) name.now bytes.now leader0 leader1)) out.old result out.new }
+    ensures { PutFlat (write_file (length out.old) (file (record { kind = kind; start = start; end = end }) name.now bytes.now leader0 leader1))
+        out.old result out.new }
 {
     let fields = Fields { kind, start, end };
     TapePut::from(file::write_file(fields, name, bytes, leader0 as usize, leader1 as usize, out))
@@ -257,7 +261,8 @@ pub extern "C" fn tape_read_file(
     header: &mut [u8],
     bytes: &mut [u8],
 ) -> TapeFile
-    ensures { FileFlat (read_file (classes fixed pulses.now) (length header.old) (length bytes.old) from) header.old bytes.old result header.new bytes.new }
+    ensures { FileFlat (read_file (classes fixed pulses.now) (length header.old) (length bytes.old) from)
+        header.old bytes.old result header.new bytes.new }
 {
     TapeFile::from(file::read_file(pulses, from, header, bytes))
 }
@@ -285,20 +290,20 @@ pub extern "C" fn tape_unpack_header(header: &[u8]) -> TapeFile
     TapeFile::from(header::unpack_header(header).map(|fields| Loaded { fields, stop: 0 }))
 }
 
+// A refusal has no span, so it has an arm of its own, as in the conversions below.
 #[unsafe(no_mangle)]
 pub extern "C" fn tape_shown_name(header: &[u8]) -> TapeSpan
     ensures { result ≡ flat_span (shown_span header.now) }
 {
     match header::unpack_header(header) {
         Ok(_) => TapeSpan {
-            refusal: NO_REFUSAL,
+            refusal: TapeRefusal::default(),
             offset: header::NAME_AT as u64,
             length: header::shown_name(header).len() as u64,
         },
         Err(refusal) => TapeSpan {
             refusal: TapeRefusal::from(refusal),
-            offset: 0,
-            length: 0,
+            ..TapeSpan::default()
         },
     }
 }
@@ -328,7 +333,7 @@ pub extern "C" fn tape_report_strip(totals: TapeWear, pulses: &[u32]) -> TapeRep
 {
     match wear::report(Totals::from(totals), pulses) {
         Ok(sums) => TapeReport {
-            refusal: NO_REFUSAL,
+            refusal: TapeRefusal::default(),
             totals: TapeWear::from(sums),
         },
         Err(why) => TapeReport {
@@ -347,20 +352,13 @@ pub extern "C" fn tape_walk_block(pulses: &[u32], at: TapeWalk) -> TapeWalked
         Ok(tried) => TapeWalked::from(tried),
         Err(why) => TapeWalked {
             refusal: TapeRefusal::from(why),
-            found: 0,
-            n: 0,
-            start: 0,
-            end: 0,
-            one: 0,
-            two: 0,
-            lost: 0,
-            causes: ByCause::none(),
             next: at,
+            ..TapeWalked::default()
         },
     }
 }
 
-// ---- Answers as plain structs
+// ---- Answers as plain structs. Each has an arm for a refusal: one function for all would need two impls for each struct, and be no plainer.
 
 impl From<ByteRead> for TapeByte {
     ghost from_gives = { λ read byte. byte ≡ flat_byte read };
@@ -370,12 +368,11 @@ impl From<ByteRead> for TapeByte {
             ByteRead::Good(value) => TapeByte {
                 good: 1,
                 value: u32::from(value),
-                cause: 0,
+                ..TapeByte::default()
             },
             ByteRead::Bad(cause) => TapeByte {
-                good: 0,
-                value: 0,
                 cause: u32::from(cause),
+                ..TapeByte::default()
             },
         }
     }
@@ -387,12 +384,12 @@ impl From<Result<usize, Refusal>> for TapePut {
     fn from(answer: Result<usize, Refusal>) -> TapePut {
         match answer {
             Ok(n) => TapePut {
-                refusal: NO_REFUSAL,
+                refusal: TapeRefusal::default(),
                 count: n as u64,
             },
             Err(why) => TapePut {
                 refusal: TapeRefusal::from(why),
-                count: 0,
+                ..TapePut::default()
             },
         }
     }
@@ -404,39 +401,33 @@ impl From<Result<Extent, Refusal>> for TapeBlock {
     fn from(answer: Result<Extent, Refusal>) -> TapeBlock {
         match answer {
             Ok(e) => TapeBlock {
-                refusal: NO_REFUSAL,
+                refusal: TapeRefusal::default(),
                 n: e.n as u64,
                 start: e.start as u64,
                 end: e.end as u64,
             },
             Err(why) => TapeBlock {
                 refusal: TapeRefusal::from(why),
-                n: 0,
-                start: 0,
-                end: 0,
+                ..TapeBlock::default()
             },
         }
     }
 }
 
+// Over a TapeBlock, which has an arm for each case of an answer.
 impl From<Said> for TapeTold {
     ghost from_gives = { λ said told. told ≡ flat_told (saying_of said) };
 
     fn from(said: Said) -> TapeTold {
         match said {
-            Said::Nothing => TapeTold {
-                refusal: NO_REFUSAL,
-                told: 0,
-                n: 0,
-                start: 0,
-                end: 0,
-            },
+            Said::Nothing => TapeTold::default(),
             Said::Answer(answer) => told_of(1, TapeBlock::from(answer)),
             Said::Refused(why) => told_of(2, TapeBlock::from(Err(why))),
         }
     }
 }
 
+// No From: it takes the number told too.
 fn told_of(told: u32, block: TapeBlock) -> TapeTold
     ensures { result ≡ told_struct told block }
 {
@@ -457,7 +448,7 @@ impl From<Result<Loaded, Refusal>> for TapeFile {
             Ok(loaded) => {
                 let fields = loaded.fields;
                 TapeFile {
-                    refusal: NO_REFUSAL,
+                    refusal: TapeRefusal::default(),
                     kind: u32::from(fields.kind),
                     start: u32::from(fields.start),
                     end: u32::from(fields.end),
@@ -466,10 +457,7 @@ impl From<Result<Loaded, Refusal>> for TapeFile {
             }
             Err(why) => TapeFile {
                 refusal: TapeRefusal::from(why),
-                kind: 0,
-                start: 0,
-                end: 0,
-                stop: 0,
+                ..TapeFile::default()
             },
         }
     }
@@ -481,27 +469,17 @@ impl From<Result<TapInfo, Refusal>> for TapeTap {
     fn from(answer: Result<TapInfo, Refusal>) -> TapeTap {
         match answer {
             Ok(info) => TapeTap {
-                refusal: NO_REFUSAL,
+                refusal: TapeRefusal::default(),
                 version: u32::from(info.version),
                 count: info.count as u64,
             },
             Err(why) => TapeTap {
                 refusal: TapeRefusal::from(why),
-                version: 0,
-                count: 0,
+                ..TapeTap::default()
             },
         }
     }
 }
-
-// The refusal of an answer that is accepted.
-const NO_REFUSAL: TapeRefusal = TapeRefusal {
-    number: 0,
-    block: 0,
-    place: 0,
-    cause_one: 0,
-    cause_two: 0,
-};
 
 impl From<Refusal> for TapeRefusal {
     ghost from_gives = { λ refusal flat. flat ≡ flat_refusal (why_of refusal) };
@@ -519,7 +497,7 @@ impl From<Refusal> for TapeRefusal {
     }
 }
 
-// ---- Totals and places
+// ---- Totals and places. C's structs have the fields that the header for C states, so each is handed on by its name.
 
 impl From<TapeWear> for Totals {
     ghost from_gives = { λ wear totals. totals ≡ totals_of wear };

@@ -1,20 +1,18 @@
--- What the calls around one pulse come to: the search for the start, sound states, what is said, the payload that is filled in.
+-- What the calls around one pulse come to: the search for the start, what is said, calls that take nothing, the payload that is filled in.
 use Prim.Native.Nat.{ℕ, ◌+◌, ◌-◌, ◌*◌, ◌/◌, ◌%◌, ◌^◌, ◌≤◌, ◌<◌}
 use native.Mathlib.Omega.{arith}
 use mathlib.Core.Path.{◌≡◌, refl, sym, ◌∙◌}
-use mathlib.Core.Logic.{◌⊎◌, inl, inr}
-use mathlib.Core.Bool.{Bool, true, false, cond, not, ◌&&◌, ◌||◌}
+use mathlib.Core.Bool.{Bool, true, false, cond, not, ◌||◌}
 use mathlib.Core.List.{List}
-use borrow.Author.Tests.{eq-eqb, ne_eqb, eqb-true, leb-true, ltb-true, ltb-false, not-false}
+use borrow.Author.Tests.{eq-eqb, ne_eqb, eqb-true, leb-true, le-ltb, ltb-false}
 use lib.Count.{ones}
 use lib.Dec.{eqb, leb, ltb}
 use lib.ListN.{length, get_or, set}
 use Rattle.std.specs.Prelude.{Option, None, Some}
 use Rattle.lists.specs.Places.{tabulate}
 use Rattle.lists.specs.Buffer.{put_at}
-use Rattle.lists.proofs.BoolLaws.{or-false, leb-not}
 use Rattle.lists.proofs.BufferLaws.{put-room}
-use Rattle.lists.proofs.LoopLaws.{Putting, table_left, table-begun, table-next, table-over, put-begun, put_one, put-done}
+use Rattle.lists.proofs.LoopLaws.{Putting, table_left, table-next, table-over, put_one, put-done}
 use Rattle.lists.proofs.PlaceLaws.{length-tabulate}
 use Rattle.lists.proofs.Table.{every-at}
 use Rattle.refusal.specs.declared.Refusal.{Refusal}
@@ -28,9 +26,7 @@ use Rattle.pulse.specs.Pulse.{same}
 use Rattle.byte.specs.Byte.{is_odd, bits, parity_bit, coded, byte_classes}
 use Rattle.byte.specs.Damage.{differ}
 use Rattle.start.specs.Copies.{end_of}
-use Rattle.byte.specs.declared.ByteRead.TheVariants.{Good}
 use Rattle.block.specs.declared.Extent.{Extent}
-use Rattle.deck.specs.Limit.{outside}
 use Rattle.block.specs.declared.PlaceRead.{PlaceRead}
 use Rattle.block.specs.declared.PlaceRead.TheVariants.{One, Two, Neither}
 use Rattle.block.specs.Looking.{place_read}
@@ -38,12 +34,11 @@ use Rattle.deck.specs.declared.Deck.{Deck}
 use Rattle.deck.specs.declared.state.Phase as own
 use Rattle.deck.specs.declared.Checks.{Checks}
 use Rattle.deck.specs.Lead.{lead, ends_with, longest_end, seek}
-use Rattle.deck.specs.Work.{fits, put_byte, payload_in}
+use Rattle.deck.specs.Work.{fits, payload_in}
 use Rattle.deck.specs.Judge.{mended, filled}
-use Rattle.deck.specs.Step.{Phase, Seeking, Told}
-use Rattle.deck.specs.Calls.{deck_of, phase_of, sound_in, is_sound, is_closed, lent, deck_refusing, not_begun, begin_deck, if_lent, ended_in, take_end, outcome_by, Silent, Answered, Denied, said_in, said_by}
-use Rattle.deck.specs.private.Ready.{doing, refusal_by}
-use Rattle.deck.proofs.SoundLaws.{closed-open, sound-sane}
+use Rattle.deck.specs.Step.{Told}
+use Rattle.deck.specs.Calls.{deck_of, phase_of, is_sound, is_closed, lent, deck_refusing, refusing, steps_lent, if_lent, ended_in, take_run, take_end, outcome_by, Silent, Answered, Denied, said_in, said_by}
+use Rattle.deck.specs.private.Ready.{doing, turned_away}
 
 -- ---- The search for the start: by masks, as the code has it
 
@@ -118,29 +113,6 @@ module _ (s : ℕ) (h : s < 36) where
     pub seek-noise : c ≡ Noise → 0 ≡ seek s c
     seek-noise e = rw e is-noise
 
--- ---- Sound states, as the code tests them
-
-module _ (d : Deck) where
-  abbrev pub is_wrong : Bool
-  is_wrong = (outside 65534 d.n || ltb 2 d.refused) || ltb 4 d.phase
-
-  pub unsound : is_wrong ≡ true → false ≡ is_sound d
-  unfolding is_sound
-  unsound e = rw (leb-not d.refused 2, leb-not d.phase 4) (go (outside 65534 d.n) (ltb 2 d.refused) (ltb 4 d.phase) e)
-    where
-      go : (a b c : Bool) → ((a || b) || c) ≡ true → false ≡ (not a && not b && not c && sound_in d.n d.taken d.refused (phase_of d))
-      go true b c e = refl
-      go false true c e = refl
-      go false false true e = refl
-      go false false false e = absurd (let z : ◌≡◌ {A = ℕ} 0 1 = cc in omega arith)
-
-  pub sound-by : is_wrong ≡ false → {ph : Phase} → phase_of d ≡ ph → sound_in d.n d.taken d.refused ph ≡ is_sound d
-  unfolding is_sound
-  sound-by right e =
-      let h = or-false (outside 65534 d.n || ltb 2 d.refused) (ltb 4 d.phase) right in
-      let g = or-false (outside 65534 d.n) (ltb 2 d.refused) h.0 in
-      rw (leb-not d.refused 2, leb-not d.phase 4, g.0, g.1, h.1, e)
-
 -- ---- What is said
 
 module _ (n start : ℕ) (c : Checks) (a : ℕ) where
@@ -180,12 +152,6 @@ module _ (d : Deck) {sound : Bool} (s : sound ≡ is_sound d) where
   said-refused e p q = rw (← s, e, q, p)
 
   module _ (e : is_refused ≡ false) where
-    is-sound : is_sound d ≡ true
-    is-sound = sym s ∙ not-false sound (or-false (not sound) (not (eqb d.refused 0)) e).0
-
-    pub said-inside : d.n ≤ 65534
-    said-inside = ltb-false 65534 d.n (or-false (eqb d.n 0) (ltb 65534 d.n) (sound-sane d is-sound).size).1
-
     pub said-silent : (ph : own.Phase) → doing ph ≡ phase_of d → ((start answer : ℕ) (checks : Checks) → ph ≡ own.Phase.Told start answer checks → ⊥)
         → Silent ≡ said_by d
     unfolding said_by
@@ -203,71 +169,61 @@ module _ (d : Deck) {sound : Bool} (s : sound ≡ is_sound d) where
     unfolding said_by
     said-answer h q = rw (← s, e, h, q)
 
--- ---- The beginning
+-- ---- Calls that take nothing
 
-module _ (n work out : ℕ) {d : Deck} where
-  pub begin-size : outside 65534 n ≡ true → d ≡ not_begun 1 → d ≡ begin_deck n work out
-  unfolding begin_deck
-  begin-size e q = rw (e, q)
+-- what holds of a call that takes its pulses
+pub record Admitted (d : Deck) (count work out : ℕ) : Type 0 where
+  pub still : is_closed d ≡ false
+  pub few : d.taken + count ≤ 4294967295
+  pub room : fits d.n work out ≡ true
 
-  pub begin-room : outside 65534 n ≡ false → {room : Bool} → room ≡ fits n work out → room ≡ false → d ≡ not_begun 2 → d ≡ begin_deck n work out
-  unfolding begin_deck
-  begin-room e r t q = rw (e, ← r, t, q)
-
-  pub begin-seeking : outside 65534 n ≡ false → {room : Bool} → room ≡ fits n work out → room ≡ true → d ≡ deck_of n 0 (Seeking 0) → d ≡ begin_deck n work out
-  unfolding begin_deck
-  begin-seeking e r t q = rw (e, ← r, t, q)
-
-pub inside-le : (most n : ℕ) → outside most n ≡ false → n ≤ most
-inside-le most n e = ltb-false most n (or-false (eqb n 0) (ltb most n) e).1
-
--- ---- Refused calls, before an answer
-
-module _ (d : Deck) (count work out : ℕ) where
-  pub is-refused : (number : ℕ) → refusal_by d count work out ≡ Some number
-      → ((number ≡ 1) × (4294967295 < d.taken + count)) ⊎ ((number ≡ 2) × (d.taken + count ≤ 4294967295) × (fits d.n work out ≡ false))
-  unfolding refusal_by
-  is-refused number e = go (ltb 4294967295 (d.taken + count)) refl (fits d.n work out) refl e
+module _ (d : Deck) (count work out : ℕ) {r : Option Deck} (f : r ≡ turned_away d count work out) where
+  pub admitted : r ≡ None → Admitted d count work out
+  unfolding turned_away
+  admitted e = go (is_closed d) refl (ltb 4294967295 (d.taken + count)) refl (fits d.n work out) refl (sym f ∙ e)
     where
-      go : (many : Bool) → ltb 4294967295 (d.taken + count) ≡ many → (room : Bool) → fits d.n work out ≡ room
-          → cond {A = Option ℕ} many (Some 1) (cond (not room) (Some 2) None) ≡ Some number
-          → ((number ≡ 1) × (4294967295 < d.taken + count)) ⊎ ((number ≡ 2) × (d.taken + count ≤ 4294967295) × (fits d.n work out ≡ false))
-      go true m room f e = inl (cc, ltb-true 4294967295 (d.taken + count) m)
-      go false m false f e = inr (cc, ltb-false 4294967295 (d.taken + count) m, f)
-      go false m true f e = absurd (let z : ◌≡◌ {A = ℕ} 0 1 = cc in omega arith)
+      go : (closed : Bool) → is_closed d ≡ closed → (many : Bool) → ltb 4294967295 (d.taken + count) ≡ many → (room : Bool) → fits d.n work out ≡ room
+          → cond {A = Option Deck} closed (Some d) (cond many (Some (deck_refusing 1 d)) (cond (not room) (Some (deck_refusing 2 d)) None)) ≡ None
+          → Admitted d count work out
+      go true c many m room q e = absurd (let z : ◌≡◌ {A = ℕ} 0 1 = cc in omega arith)
+      go false c true m room q e = absurd (let z : ◌≡◌ {A = ℕ} 0 1 = cc in omega arith)
+      go false c false m false q e = absurd (let z : ◌≡◌ {A = ℕ} 0 1 = cc in omega arith)
+      go false c false m true q e = record { still = c; few = ltb-false 4294967295 (d.taken + count) m; room = q }
 
-  pub not-refused : refusal_by d count work out ≡ None → (d.taken + count ≤ 4294967295) × (fits d.n work out ≡ true)
-  unfolding refusal_by
-  not-refused e = go (ltb 4294967295 (d.taken + count)) refl (fits d.n work out) refl e
+module _ (d : Deck) (work out : List ℕ) {r : Option Deck} where
+  -- a run, and the end
+  pub run-away : (cs : List Class) (count : ℕ) → length cs ≡ count → r ≡ turned_away d count (length work) (length out) → {d' : Deck} → r ≡ Some d'
+      → lent d' work out ≡ take_run (lent d work out) cs
+  unfolding turned_away take_run if_lent
+  run-away cs count m f {d' = d'} e = rw m
+      (go (is_closed d) (ltb 4294967295 (d.taken + count)) (fits d.n (length work) (length out)) (sym f ∙ e))
     where
-      go : (many : Bool) → ltb 4294967295 (d.taken + count) ≡ many → (room : Bool) → fits d.n work out ≡ room
-          → cond {A = Option ℕ} many (Some 1) (cond (not room) (Some 2) None) ≡ None → (d.taken + count ≤ 4294967295) × (fits d.n work out ≡ true)
-      go true m room f e = absurd (let z : ◌≡◌ {A = ℕ} 0 1 = cc in omega arith)
-      go false m false f e = absurd (let z : ◌≡◌ {A = ℕ} 0 1 = cc in omega arith)
-      go false m true f e = (ltb-false 4294967295 (d.taken + count) m, f)
+      go : (closed many room : Bool)
+          → cond {A = Option Deck} closed (Some d) (cond many (Some (deck_refusing 1 d)) (cond (not room) (Some (deck_refusing 2 d)) None)) ≡ Some d'
+          → lent d' work out ≡ cond closed (lent d work out) (cond many (refusing 1 (lent d work out))
+          (cond (not room) (refusing 2 (lent d work out)) (steps_lent (refusing 0 (lent d work out)) cs)))
+      go true many room e = cc
+      go false true room e = cc
+      go false false false e = cc
+      go false false true e = absurd (let z : ◌≡◌ {A = ℕ} 0 1 = cc in omega arith)
 
--- ---- The end
+  pub end-away : d.taken ≤ 4294967295 → r ≡ turned_away d 0 (length work) (length out) → {d' : Deck} → r ≡ Some d'
+      → lent d' work out ≡ take_end (lent d work out)
+  unfolding turned_away take_end if_lent
+  end-away l f {d' = d'} e =
+      go (is_closed d) (fits d.n (length work) (length out)) (rw (le-ltb 4294967295 (d.taken + 0) (omega arith)) at (sym f ∙ e))
+    where
+      go : (closed room : Bool) → cond {A = Option Deck} closed (Some d) (cond (not room) (Some (deck_refusing 2 d)) None) ≡ Some d'
+          → lent d' work out ≡ cond closed (lent d work out)
+          (cond (not room) (refusing 2 (lent d work out)) (lent (deck_of d.n d.taken (ended_in (phase_of d))) work out))
+      go true room e = cc
+      go false false e = cc
+      go false true e = absurd (let z : ◌≡◌ {A = ℕ} 0 1 = cc in omega arith)
 
-module _ (d : Deck) where
-  pub open-inside : is_closed d ≡ false → d.n ≤ 65534
-  open-inside o = inside-le 65534 d.n (closed-open d o).sane.size
-
-module _ (d : Deck) (work out : List ℕ) where
-  pub end-closed : {t : Bool} → t ≡ is_closed d → t ≡ true → lent d work out ≡ take_end (lent d work out)
-  unfolding take_end
-  end-closed e t = rw (← e, t)
-
-  module _ (o : is_closed d ≡ false) {r : Option ℕ} (f : r ≡ refusal_by d 0 (length work) (length out)) where
-    pub end-refused : {number : ℕ} → d.taken ≤ 4294967295 → r ≡ Some number → lent (deck_refusing number d) work out ≡ take_end (lent d work out)
-    unfolding take_end if_lent
-    end-refused {number = number} l e = elim (is-refused d 0 (length work) (length out) number (sym f ∙ e)) [
-      | inl q ↦ absurd (omega (arith, q))
-      | inr q ↦ rw (o, q.2, q.0)
-    ]
-
-    pub end-ends : r ≡ None → {d' : Deck} → d' ≡ deck_of d.n d.taken (ended_in (phase_of d)) → lent d' work out ≡ take_end (lent d work out)
-    unfolding take_end if_lent
-    end-ends e q = rw (o, (not-refused d 0 (length work) (length out) (sym f ∙ e)).1, q)
+  pub end-ends : r ≡ turned_away d 0 (length work) (length out) → r ≡ None → {d' : Deck} → d' ≡ deck_of d.n d.taken (ended_in (phase_of d))
+      → lent d' work out ≡ take_end (lent d work out)
+  unfolding take_end if_lent
+  end-ends f e q = let a = admitted d 0 (length work) (length out) f e in rw (a.still, a.room, q)
 
 -- ---- The payload that is filled in
 
@@ -277,9 +233,6 @@ payload_at work i = get_or work (2 * (9 + i)) 0
 module _ (out₀ work : List ℕ) (n : ℕ) where
   abbrev pub PayloadPut : List ℕ → ℕ → Type 0
   PayloadPut out i = Putting out₀ 0 (tabulate (payload_at work) n 0) out i (table_left (payload_at work) n i)
-
-  pub fill-begun : PayloadPut out₀ 0
-  fill-begun = put-begun out₀ 0 0 (tabulate (payload_at work) n 0) (table_left (payload_at work) n 0) refl (table-begun (payload_at work) n)
 
   module _ {out : List ℕ} {i : ℕ} (u : PayloadPut out i) where
     pub fill-next : i < n → PayloadPut (set out i (payload_at work i)) (i + 1)
@@ -300,10 +253,7 @@ module _ (n : ℕ) (work out : List ℕ) {answer : ℕ} where
   unfolding filled
   filled-no e = rw (ne_eqb answer 0 e)
 
--- ---- A good byte of copy two replaces a bad one
-
-pub mend-two : (work : List ℕ) (i v : ℕ) {r : PlaceRead} → r ≡ Two v → {work' : List ℕ} → work' ≡ put_byte work i (Good v) → work' ≡ mended work i (place_read r)
-mend-two work i v e q = rw (e, q)
+-- ---- Where copy two's byte is not taken, the working buffer stays
 
 pub mend-none : (work : List ℕ) (i : ℕ) (r : PlaceRead) → ((v : ℕ) → r ≡ Two v → ⊥) → work ≡ mended work i (place_read r)
 mend-none work i (One v) h = refl

@@ -4,9 +4,8 @@ use native.Mathlib.Decide.{dec_lt}
 use native.Mathlib.Omega.{arith}
 use mathlib.Core.Path.{◌≡◌, refl, sym, ap, ◌∙◌}
 use mathlib.Core.Logic.{inl, inr}
-use mathlib.Core.Bool.{Bool, true, false, ◌&&◌}
+use mathlib.Core.Bool.{Bool, true, ◌&&◌}
 use mathlib.Core.List.{List, [], ◌∷◌, ◌++◌}
-use Rattle.std.specs.Prelude.{Option, None, Some}
 use borrow.Author.Tests.{ne_eqb, lt-ltb, leb-true}
 use lib.Dec.{leb, lit<}
 use lib.ListN.{length, drop, get_or, length-drop, length-take, length-map, get_or-map, take-append-drop}
@@ -23,12 +22,12 @@ use Rattle.byte.proofs.CauseLaws.{byte_at-most}
 use Rattle.deck.specs.declared.Deck.{Deck}
 use Rattle.deck.specs.Work.{cause_byte}
 use Rattle.deck.specs.Step.{standing}
-use Rattle.deck.specs.Calls.{phase_of, is_sound, is_closed, Lent, lent, lent_of, deck_refusing, refusing, step_lent, steps_lent, take_run}
-use Rattle.deck.specs.private.Ready.{Roomy, Settles, settles_in, refusal_by, settled, is_at_frame}
+use Rattle.deck.specs.Calls.{phase_of, is_sound, Lent, lent, lent_of, deck_refusing, refusing, step_lent, steps_lent, take_run}
+use Rattle.deck.specs.private.Ready.{Roomy, Settles, settles_in, settled, is_at_frame}
 use Rattle.deck.proofs.SoundLaws.{sound-sane, Open, closed-open}
-use Rattle.deck.proofs.CallLaws.{Went, run-closed, run-many, run_short, run-steps, refusing-sound, steps-told, steps-append, steps-went}
+use Rattle.deck.proofs.CallLaws.{Went, run-steps, refusing-sound, steps-told, steps-append, steps-went}
 use Rattle.deck.proofs.Stepping.{phase-one, phase-two, one-small, two-small, roomy, at-frame, frame-steps}
-use Rattle.deck.proofs.Answering.{is-refused, not-refused}
+use Rattle.deck.proofs.Answering.{Admitted}
 
 -- the class by the fixed thresholds
 pub class-fixed : (pulse : ℕ) {t : Thresholds} {r : Class} → t ≡ fixed → r ≡ class_of t pulse → r ≡ class_of fixed pulse
@@ -38,39 +37,27 @@ pub byte-fixed : (pulses : List ℕ) (at : ℕ) {t : Thresholds} {r : ByteRead} 
     → r ≡ byte_at (classes fixed pulses) at
 byte-fixed pulses at e w = w ∙ ap (λ t. byte_at (classes t pulses) at) e
 
--- ---- A call, by its tests
+-- ---- A call that takes its pulses
 
 module _ (d : Deck) (work out : List ℕ) where
-  pub take-closed : (cs : List Class) {t : Bool} → t ≡ is_closed d → t ≡ true → lent d work out ≡ take_run (lent d work out) cs
-  take-closed cs e h = sym (run-closed (lent d work out) cs (sym e ∙ h))
-
-  module _ (o : is_closed d ≡ false) (cs : List Class) (count : ℕ) (m : length cs ≡ count)
-      {r : Option ℕ} (f : r ≡ refusal_by d count (length work) (length out)) where
-    pub take-refused : {number : ℕ} → r ≡ Some number → refusing number (lent d work out) ≡ take_run (lent d work out) cs
-    take-refused {number = number} e = elim (is-refused d count (length work) (length out) number (sym f ∙ e)) [
-      | inl q ↦ rw q.0 (sym (run-many (lent d work out) cs o (omega (arith, q))))
-      | inr q ↦ rw q.0 (sym (run_short (lent d work out) cs o (omega (arith, q.1)) q.2))
-    ]
-
-    pub take_steps : {l : Lent} → r ≡ None → l ≡ steps_lent (refusing 0 (lent d work out)) cs → l ≡ take_run (lent d work out) cs
-    take_steps e s =
-        let q = not-refused d count (length work) (length out) (sym f ∙ e) in
-        s ∙ sym (run-steps (lent d work out) cs o (omega (arith, q.0)) q.1)
+  pub take_steps : (cs : List Class) (count : ℕ) → length cs ≡ count → Admitted d count (length work) (length out)
+      → {l : Lent} → l ≡ steps_lent (refusing 0 (lent d work out)) cs → l ≡ take_run (lent d work out) cs
+  take_steps cs count m a s = let few = a.few in s ∙ sym (run-steps (lent d work out) cs a.still (omega arith) a.room)
 
   -- one pulse, whatever the last call said
-  module _ (o : is_closed d ≡ false) {r : Option ℕ} (f : r ≡ refusal_by d 1 (length work) (length out)) (e : r ≡ None) where
+  module _ (a : Admitted d 1 (length work) (length out)) where
     pub take-few : d.taken < 4294967295
-    take-few = omega (arith, (not-refused d 1 (length work) (length out) (sym f ∙ e)).0)
+    take-few = omega (arith, a.few)
 
     pub take-roomy : Roomy d.n (length work) (length out)
-    take-roomy = roomy d.n (length work) (length out) (closed-open d o).sane.size (not-refused d 1 (length work) (length out) (sym f ∙ e)).1
+    take-roomy = roomy d.n (length work) (length out) (closed-open d a.still).sane.size a.room
 
     pub take-one : (c : Class) {c' : Class} {l : Lent} → c' ≡ c → l ≡ step_lent (lent d work out) c' → l ≡ take_run (lent d work out) (c ∷ [])
     unfolding steps_lent step_lent phase_of
     take-one c q s =
-        let early = (closed-open d o).early in
+        let early = (closed-open d a.still).early in
         let other = ne_eqb d.phase 4 (λ z. omega arith) in
-        take_steps o (c ∷ []) 1 refl f e (rw other (rw (q, other) at s))
+        take_steps (c ∷ []) 1 refl a (rw other (rw (q, other) at s))
 
 byte-cause : (cs : List Class) (at : ℕ) → cause_byte (byte_at cs at) < 256
 byte-cause cs at = go (byte_at cs at) refl
@@ -88,25 +75,18 @@ pub record Running (pulses : List ℕ) (d₀ : Deck) (work₀ out₀ : List ℕ)
   pub whole : steps_lent (lent d work out) (drop i (classes fixed pulses)) ≡ steps_lent (lent d₀ work₀ out₀) (classes fixed pulses)
   pub sound : is_sound d ≡ true
   pub room : Roomy d.n (length work) (length out)
-  pub working : length work ≡ length work₀
-  pub output : length out ≡ length out₀
   pub few : d.taken + (length pulses - i) ≤ 4294967295
 
-pub running-begun : (pulses : List ℕ) (d : Deck) (work out : List ℕ) → is_closed d ≡ false
-    → {r : Option ℕ} → r ≡ refusal_by d (length pulses) (length work) (length out) → r ≡ None
+pub running-begun : (pulses : List ℕ) (d : Deck) (work out : List ℕ) → Admitted d (length pulses) (length work) (length out)
     → Running pulses (deck_refusing 0 d) work out (deck_refusing 0 d) work out 0
-running-begun pulses d work out closed f e =
-    let q = not-refused d (length pulses) (length work) (length out) (sym f ∙ e) in
-    record {
-      short = omega (arith, q.0);
-      within = omega arith;
-      whole = refl;
-      sound = refusing-sound (lent d work out) 0 closed (omega arith);
-      room = roomy d.n (length work) (length out) (closed-open d closed).sane.size q.1;
-      working = refl;
-      output = refl;
-      few = omega (arith, q.0);
-    }
+running-begun pulses d work out a = record {
+  short = omega (arith, a.few);
+  within = omega arith;
+  whole = refl;
+  sound = refusing-sound (lent d work out) 0 a.still (omega arith);
+  room = roomy d.n (length work) (length out) (closed-open d a.still).sane.size a.room;
+  few = omega (arith, a.few);
+}
 
 -- the next pulse of a strip
 next-class : (pulses : List ℕ) (i : ℕ) → i < length pulses → part (classes fixed pulses) i 1 ≡ class_of fixed (get_or pulses i 0) ∷ []
@@ -135,8 +115,6 @@ module _ (pulses : List ℕ) (d₀ : Deck) (work₀ out₀ : List ℕ) (d : Deck
         whole = rw e (sym (steps-append (lent d work out) (part cs i m) (drop (i + m) cs)) ∙ ap (steps_lent (lent d work out)) rest ∙ b.whole);
         sound = w.sound b.sound;
         room = rw (w.size, w.work, w.out) b.room;
-        working = w.work ∙ b.working;
-        output = w.out ∙ b.output;
         few = omega arith;
       }
 

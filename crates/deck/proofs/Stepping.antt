@@ -39,17 +39,9 @@ use Rattle.deck.proofs.CallLaws.{Framed, framed, steps_of}
 -- ---- The phase by its number
 
 module _ (d : Deck) where
-  pub phase-seeking : d.phase ≡ 0 → phase_of d ≡ Seeking d.heard
-  unfolding phase_of
-  phase-seeking e = rw e
-
   pub phase-one : d.phase ≡ 1 → phase_of d ≡ InOne d.start d.place d.heard d.frame
   unfolding phase_of
   phase-one e = rw e
-
-  pub phase-between : d.phase ≡ 2 → phase_of d ≡ Between d.start d.heard
-  unfolding phase_of
-  phase-between e = rw e
 
   pub phase-two : d.phase ≡ 3 → phase_of d ≡ InTwo d.start d.place d.heard d.frame d.checks
   unfolding phase_of
@@ -78,8 +70,8 @@ module _ (d : Deck) where
 
 -- ---- Something is settled
 
-pub placed-next : (n k start i : ℕ) (read : ByteRead) (work out : List ℕ) {f : Frame} {work' : List ℕ} → i + 1 < n + 10
-    → work' ≡ put_byte work i read → f ≡ fresh → standing k (InOne start (i + 1) 0 f) work' out ≡ placed n k start i read work out
+pub placed-next : (n k start i : ℕ) (read : ByteRead) (work out : List ℕ) {ph : Phase} {work' : List ℕ} → i + 1 < n + 10
+    → work' ≡ put_byte work i read → ph ≡ InOne start (i + 1) 0 fresh → standing k ph work' out ≡ placed n k start i read work out
 unfolding placed
 placed-next n k start i read work out h w f = rw (ne_eqb (suc i) (n + 10) (λ z. omega arith), f, w, add-one)
 
@@ -93,13 +85,13 @@ module _ (n k start i : ℕ) (two : ByteRead) (checks : Checks) (work out : List
   after = judged n k start i (get_byte work i) two checks work out
 
   module _ {one : ByteRead} (e : one ≡ get_byte work i) {more : Checks} where
-    pub judged-countdown : {f : Frame} → i < 9 → more ≡ check_countdown i one two checks → f ≡ fresh
-        → standing k (InTwo start (i + 1) 0 f more) work out ≡ after
+    pub judged-countdown : {ph : Phase} → i < 9 → more ≡ check_countdown i one two checks → ph ≡ InTwo start (i + 1) 0 fresh more
+        → standing k ph work out ≡ after
     unfolding judged check_byte mend_byte
     judged-countdown h m f = rw (ne_eqb (suc i) (n + 10) (λ z. omega arith), lt-ltb i 9 h, f, m, e, add-one)
 
     module _ {p : Place} (s : p ≡ place_of one two) (h : 9 ≤ i) (m : more ≡ check_place n (i - 9) p checks) {work' : List ℕ} (w : work' ≡ mended work i p) where
-      pub judged-next : {f : Frame} → i - 9 < n → f ≡ fresh → standing k (InTwo start (i + 1) 0 f more) work' out ≡ after
+      pub judged-next : {ph : Phase} → i - 9 < n → ph ≡ InTwo start (i + 1) 0 fresh more → standing k ph work' out ≡ after
       unfolding judged check_byte mend_byte
       judged-next l f = rw (ne_eqb (suc i) (n + 10) (λ z. omega arith), le-ltb i 9 h, f, m, w, s, e, add-one)
 
@@ -161,10 +153,6 @@ roomy n work out e f =
     let h = or-false (eqb n 0) (ltb 65534 n) e in
     let g = and-true (leb (2 * (n + 10)) work) (leb n out) f in
     record { most = ltb-false 65534 n h.1; working = leb-true (2 * (n + 10)) work g.0; payload = leb-true n out g.1 }
-
--- there is no answer yet
-pub settles-early : {d : Deck} {read : ByteRead} {work out start answer : ℕ} {checks : Checks} → Settles d read work out → phase_of d ≡ Told start answer checks → ⊥
-settles-early s e = let h = rw e at s.numbers in let z : ◌≡◌ {A = ℕ} 0 1 = cc in omega arith
 
 -- after a pulse was heard that makes something whole
 module _ (d : Deck) (o : Open d) (c : Class) (work out : ℕ) (room : Roomy d.n work out) where

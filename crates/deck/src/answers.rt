@@ -1,5 +1,5 @@
 // What a call says.
-ghost use Rattle.std.specs.Prelude.{◌≤◌, ◌≡◌, cond, eqb};
+ghost use Rattle.std.specs.Prelude.{◌≡◌, cond, eqb};
 ghost use Rattle.refusal.specs.Outcome.{outcome_of};
 ghost use Rattle.deck.specs.Calls.{outcome_by, said_by, saying_of};
 
@@ -25,7 +25,7 @@ pub fn said(deck: Deck) -> Said
     Said::Answer(answer_in(deck.n, start, answer, checks))
 }
 
-// Why a call was refused. A state that is not sound was refused too.
+// Why a call was refused. A state that is not sound was refused too. No TryFrom, since any number stands for a reason here.
 fn reason_of(refused: u8) -> Reason
     ensures { result ≡ cond (eqb refused 2) Reason.NoRoom Reason.WrongSize }
 {
@@ -37,7 +37,6 @@ fn reason_of(refused: u8) -> Reason
 
 // The answer by its number.
 fn answer_in(n: u32, start: u32, answer: u8, checks: Checks) -> Result<Extent, Refusal>
-    requires { n ≤ 65534 }
     ensures { outcome_of result ≡ outcome_by n start answer checks }
 {
     let n = n as usize;
@@ -50,7 +49,10 @@ fn answer_in(n: u32, start: u32, answer: u8, checks: Checks) -> Result<Extent, R
         }),
         state::NO_START => Err(Reason::NoStart.into()),
         state::CUT_SHORT => Err(Refusal::at(Reason::CutShort, start)),
-        state::WRONG_COUNTDOWN => Err(Refusal::at(Reason::WrongCountdown, checks.failed as usize)),
+        state::WRONG_COUNTDOWN => Err(Refusal::at(
+            Reason::WrongCountdown,
+            usize::from(checks.failed),
+        )),
         state::LOST_BYTE => {
             let causes = Causes {
                 one: checks.one,

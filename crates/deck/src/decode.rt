@@ -18,7 +18,7 @@ const LONG: u8 = 2;
 const NOISE: u8 = 3;
 
 // The place value of the parity bit among a frame's nine bits.
-const PARITY: u16 = 256;
+const PARITY: u16 = 1 << byte::BITS;
 
 impl Frame {
     // No pulse is in yet.
@@ -26,9 +26,8 @@ impl Frame {
         ensures { result ≡ fresh }
     {
         Frame {
-            bits: 0,
-            last: 0,
             wrong: byte::EVEN_ONES,
+            ..Frame::default()
         }
     }
 
@@ -53,7 +52,7 @@ impl Frame {
         ensures { result ≡ closed self }
     {
         let value = (self.bits % PARITY) as u8;
-        let odd = (u8::count_ones(value) + (self.bits / PARITY) as u32) % 2 == 1;
+        let odd = (u8::count_ones(value) + u32::from(self.bits / PARITY)) % 2 == 1;
         if (self.wrong == byte::EVEN_ONES) & odd {
             return ByteRead::Good(value);
         }
@@ -69,7 +68,7 @@ fn with_bit(bits: u16, one: bool) -> u16
     if one { bits / 2 + PARITY } else { bits / 2 }
 }
 
-// Whether a pair of classes is what pair i has to be: the marker, or a bit.
+// Whether a pair of classes is what pair i has to be: the marker, or a bit. By the numbers that a Frame keeps, where `byte` tests cycles.
 fn is_sound(i: u8, first: u8, last: u8) -> bool
     ensures { result ≡ is_sound i (pair_of (class_named first) (class_named last)) }
 {

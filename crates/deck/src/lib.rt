@@ -16,20 +16,21 @@ mod state;
 mod step;
 mod work;
 
-ghost use Rattle.std.specs.Prelude.{◌≡◌, ◌≤◌, [], ◌∷◌};
+ghost use Rattle.std.specs.Prelude.{◌≡◌, [], ◌∷◌};
 ghost use Rattle.pulse.specs.Pulse.{class_of, fixed, classes};
 ghost use Rattle.deck.specs.Calls.{lent, begin_deck, take_run, take_end, said_by, saying_of};
-ghost use Rattle.deck.specs.private.Ready.{refusal_by};
+ghost use Rattle.deck.specs.private.Ready.{turned_away};
 
 use block::Extent;
 use pulse::{Cycles, Thresholds};
 use refusal::Refusal;
 use state::Phase;
 
-// The largest payload here, and how many pulses a deck takes. Numbers that a struct keeps are of 32 bits or 8, for C.
+// The largest payload here, and how many pulses a deck takes. Numbers that a struct keeps are of 32 bits, 16 or 8, for C.
+// Those of 32 go to usize by `as`, which has no From<u32>.
 pub const MOST_BYTES: usize = 65534;
 
-pub const MOST_PULSES: u32 = 0xffff_ffff;
+pub const MOST_PULSES: u32 = u32::MAX;
 
 // The numbers of what a deck is doing, for C, of which state::Phase has the cases: looking for the start, in copy one, between the copies, in
 // copy two; or it has answered.
@@ -48,7 +49,7 @@ pub const ANSWERED: u8 = 4;
 
 // A frame of which not all twenty pulses are in: its bits so far, the class of its last pulse, and its first wrong pair, or 10.
 #[repr(C)]
-#[derive(Clone, Copy)]
+#[derive(Clone, Copy, Default)]
 pub struct Frame {
     pub bits: u16,
     pub last: u8,
@@ -58,7 +59,7 @@ pub struct Frame {
 // What copy two has shown so far: the first lost place, or n + 1; the first countdown place that fails, or 9; the XOR of the values; and the
 // causes of the first lost place.
 #[repr(C)]
-#[derive(Clone, Copy)]
+#[derive(Clone, Copy, Default)]
 pub struct Checks {
     pub lost: u32,
     pub failed: u8,
@@ -70,7 +71,7 @@ pub struct Checks {
 // The state. What is heard are pulses: of the sixteen short ones and $89 while it seeks, of a frame in a copy, and between the copies. The
 // answer is 0, or the number of a refusal; `refused` is the number with which the last call was refused, or 0.
 #[repr(C)]
-#[derive(Clone, Copy)]
+#[derive(Clone, Copy, Default)]
 pub struct Deck {
     pub n: u32,
     pub taken: u32,
@@ -99,32 +100,29 @@ impl Deck {
     pub fn begin(n: usize, working: usize, room: usize) -> Deck
         ensures { result ≡ begin_deck n working room }
     {
-        // `block::wrong_size` has another bound.
-        if (n == 0) | (MOST_BYTES < n) {
+        // No function for this and is_sound's test: n has another type there, and in `block::wrong_size` another end. A range is as plain as its name.
+        if !(1..=MOST_BYTES).contains(&n) {
             return Deck::not_begun(state::WRONG_SIZE);
         }
+        let n = n as u32;
         if !work::has_room(n, working, room) {
             return Deck::not_begun(state::NO_ROOM);
         }
-        Phase::Seeking { matched: 0 }.deck(n as u32, 0)
+        Phase::Seeking { matched: 0 }.deck(n, 0)
     }
 
     // Takes one pulse.
     pub fn pulse(mut self, pulse: u32, work: &mut [u8], out: &mut [u8]) -> Deck
         ensures { lent result work.new out.new ≡ take_run (lent self work.old out.old) (class_of fixed pulse ∷ []) }
     {
-        if self.is_closed() {
-            return self;
-        }
-        if let Some(refused) = self.refusal(1, work.len(), out.len()) {
-            self.refused = refused;
-            return self;
+        if let Some(same) = self.turned_away(1, work.len(), out.len()) {
+            return same;
         }
         self = self.feed(pulse::class_of(Thresholds::fixed(), Cycles(pulse)));
-        if !self.is_whole() {
-            return self;
+        if self.is_whole() {
+            self = self.settle(self.frame.close(), work, out);
         }
-        self.settle(self.frame.close(), work, out)
+        self
     }
 
     // Takes a run of pulses, which may be empty. It refuses, whole, a run with which they would be too many, and a working buffer or an output
@@ -132,17 +130,14 @@ impl Deck {
     pub fn pulses(mut self, pulses: &[u32], work: &mut [u8], out: &mut [u8]) -> Deck
         ensures { lent result work.new out.new ≡ take_run (lent self work.old out.old) (classes fixed pulses.now) }
     {
-        if self.is_closed() {
-            return self;
-        }
-        if let Some(refused) = self.refusal(pulses.len(), work.len(), out.len()) {
-            self.refused = refused;
-            return self;
+        if let Some(same) = self.turned_away(pulses.len(), work.len(), out.len()) {
+            return same;
         }
         self.refused = 0;
         let mut i: usize = 0;
         // A while, since a turn takes a whole frame or one pulse.
         while i < pulses.len() {
+            // By its number, as in is_closed: one case alone is asked for.
             if self.phase == ANSWERED {
                 return self;
             }
@@ -162,15 +157,11 @@ impl Deck {
     }
 
     // Takes the end of the pulses.
-    pub fn end(mut self, work: &mut [u8], out: &mut [u8]) -> Deck
+    pub fn end(self, work: &mut [u8], out: &mut [u8]) -> Deck
         ensures { lent result work.new out.new ≡ take_end (lent self work.old out.old) }
     {
-        if self.is_closed() {
-            return self;
-        }
-        if let Some(refused) = self.refusal(0, work.len(), out.len()) {
-            self.refused = refused;
-            return self;
+        if let Some(same) = self.turned_away(0, work.len(), out.len()) {
+            return same;
         }
         self.finish()
     }
@@ -182,18 +173,21 @@ impl Deck {
         answers::said(self)
     }
 
-    // The number with which a call with so many pulses is refused, before an answer.
-    #[tactic(auto, unfolding(crate::specs::private::Ready::refusal_by))]
-    fn refusal(self, count: usize, working: usize, room: usize) -> Option<u8>
-        requires { self.n ≤ 65534 }
-        ensures { result ≡ refusal_by self count working room }
+    // What a call with so many pulses hands back where it takes nothing: a closed deck as it is, or with the number of why the call is refused.
+    #[tactic(auto, unfolding(crate::specs::private::Ready::turned_away))]
+    fn turned_away(self, count: usize, working: usize, room: usize) -> Option<Deck>
+        ensures { result ≡ turned_away self count working room }
     {
-        if ((MOST_PULSES - self.taken) as usize) < count {
-            return Some(state::WRONG_SIZE);
+        if self.is_closed() {
+            return Some(self);
         }
-        if !work::has_room(self.n as usize, working, room) {
-            return Some(state::NO_ROOM);
-        }
-        None
+        let refused = if ((MOST_PULSES - self.taken) as usize) < count {
+            state::WRONG_SIZE
+        } else if !work::has_room(self.n, working, room) {
+            state::NO_ROOM
+        } else {
+            return None;
+        };
+        Some(Deck { refused, ..self })
     }
 }

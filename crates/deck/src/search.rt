@@ -5,10 +5,10 @@ ghost use Rattle.deck.specs.Lead.{seek};
 
 use pulse::Class;
 
-pub const LEAD_PULSES: u8 = 36;
+pub const LEAD_PULSES: u8 = LONG_AT + byte::BYTE_PULSES as u8;
 
 // Where the lead has its long pulse: after the sixteen short ones.
-const LONG_AT: u8 = 16;
+const LONG_AT: u8 = start::SYNC_SHORTS as u8;
 
 // Bit i tells whether pulse i of the lead is short, or medium.
 const SHORTS: u64 = 0x6_5658_ffff;

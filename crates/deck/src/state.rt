@@ -1,9 +1,14 @@
 // What a deck is doing, its numbers in each phase, and which states are sound.
 ghost use Rattle.std.specs.Prelude.{◌≡◌};
+ghost use Rattle.deck.specs.Frame.{fresh};
+ghost use Rattle.deck.specs.Step.{InOne, InTwo};
 ghost use Rattle.deck.specs.Calls.{deck_of, phase_of, is_sound, is_closed, not_begun};
 ghost use Rattle.deck.specs.private.Ready.{doing};
 
 use super::{ANSWERED, BETWEEN, Checks, Deck, Frame, IN_ONE, IN_TWO, SEEKING, search};
+
+// The numbers of reasons that a Deck keeps for C, in `refused` before an answer and in `answer` from then on. They stand here beside
+// `u32::from(reason)`, since a constant may call no function, and a match and is_sound ask for constants.
 
 // The numbers of the refusals that a call may have before an answer.
 pub const WRONG_SIZE: u8 = 1;
@@ -33,20 +38,6 @@ pub const GAP: u8 = start::TRAILER_PULSES as u8;
 
 const MOST_BYTES: u32 = super::MOST_BYTES as u32;
 
-const NO_FRAME: Frame = Frame {
-    bits: 0,
-    last: 0,
-    wrong: 0,
-};
-
-pub const NO_CHECKS: Checks = Checks {
-    lost: 0,
-    failed: 0,
-    sum: 0,
-    one: 0,
-    two: 0,
-};
-
 // What a deck is doing, with the numbers that it has then. A Deck itself has numbers alone, for C, and those that its phase lacks are 0.
 #[derive(Clone, Copy)]
 pub enum Phase {
@@ -70,6 +61,7 @@ pub enum Phase {
         frame: Frame,
         checks: Checks,
     },
+    // The answer is a number here too: any may come from C, and is_sound asks whether it is one of an answer.
     Told {
         start: u32,
         answer: u8,
@@ -78,6 +70,30 @@ pub enum Phase {
 }
 
 impl Phase {
+    // At a byte place of copy one, and of copy two, with no pulse of its frame heard yet.
+    pub fn one_at(start: u32, place: u32) -> Phase
+        ensures { doing result ≡ InOne start place 0 fresh }
+    {
+        Phase::InOne {
+            start,
+            place,
+            heard: 0,
+            frame: Frame::fresh(),
+        }
+    }
+
+    pub fn two_at(start: u32, place: u32, checks: Checks) -> Phase
+        ensures { doing result ≡ InTwo start place 0 fresh checks }
+    {
+        Phase::InTwo {
+            start,
+            place,
+            heard: 0,
+            frame: Frame::fresh(),
+            checks,
+        }
+    }
+
     // A deck in this phase.
     pub fn deck(self, n: u32, taken: u32) -> Deck
         ensures { result ≡ deck_of n taken (doing self) }
@@ -85,17 +101,11 @@ impl Phase {
         let blank = Deck {
             n,
             taken,
-            start: 0,
-            place: 0,
-            phase: SEEKING,
-            heard: 0,
-            answer: 0,
-            refused: 0,
-            frame: NO_FRAME,
-            checks: NO_CHECKS,
+            ..Deck::default()
         };
         match self {
             Phase::Seeking { matched } => Deck {
+                phase: SEEKING,
                 heard: matched,
                 ..blank
             },
@@ -192,7 +202,8 @@ impl Deck {
         }
     }
 
-    // Whether no call changes the deck: it has answered, or it is none that a beginning and pulses can give.
+    // Whether no call changes the deck: it has answered, or it is none that a beginning and pulses can give. The phase by its number, since one
+    // case alone is asked for.
     #[tactic(auto, unfolding(crate::specs::Calls::is_closed))]
     pub(super) fn is_closed(self) -> bool
         ensures { result ≡ is_closed self }
@@ -200,17 +211,19 @@ impl Deck {
         !self.is_sound() | (self.phase == ANSWERED)
     }
 
+    // Whether it is one of those. The phase is tested by its number first, since `Phase` has no case for a number that is none.
+    #[tactic(auto, unfolding(crate::specs::Calls::is_sound))]
     pub(super) fn is_sound(self) -> bool
         ensures { result ≡ is_sound self }
     {
         let n = self.n;
         let refused = self.refused;
-        if (n == 0) | (MOST_BYTES < n) | (NO_ROOM < refused) | (ANSWERED < self.phase) {
+        if !(1..=MOST_BYTES).contains(&n) | (NO_ROOM < refused) | (ANSWERED < self.phase) {
             return false;
         }
         match self.phase() {
             Phase::Seeking { matched } => (matched < search::LEAD_PULSES)
-                & (matched as u32 <= self.taken),
+                & (u32::from(matched) <= self.taken),
             Phase::InOne {
                 place,
                 heard,

@@ -1,4 +1,5 @@
-// The two lent buffers.
+// The two lent buffers. They are lent anew to each call, so no struct keeps them or their lengths: that there is room for a place is a clause of
+// each contract, and `working` and `room`, or `work` and `out`, are passed side by side.
 ghost use Rattle.std.specs.Prelude.{◌+◌, ◌*◌, ◌<◌, ◌≤◌, ◌≡◌, length};
 ghost use Rattle.lists.specs.Buffer.{put_at};
 ghost use Rattle.deck.specs.Work.{fits, cause_byte, put_byte, get_byte, payload_in};
@@ -6,10 +7,10 @@ ghost use Rattle.deck.specs.Work.{fits, cause_byte, put_byte, get_byte, payload_
 use byte::ByteRead;
 
 // Whether the buffers are long enough for n payload bytes.
-pub fn has_room(n: usize, working: usize, room: usize) -> bool
-    requires { n ≤ 65534 }
+pub fn has_room(n: u32, working: usize, room: usize) -> bool
     ensures { result ≡ fits n working room }
 {
+    let n = n as usize;
     (2 * (n + start::EXTRA_BYTES) <= working) & (n <= room)
 }
 
@@ -43,9 +44,9 @@ pub fn get(work: &[u8], place: usize) -> ByteRead
     ByteRead::Bad(mark - 1)
 }
 
-// Fills the output with the n payload bytes.
+// Fills the output with the n payload bytes. By an index, since nothing is proved of what a loop over `iter_mut().zip(..)` writes.
 pub fn fill(out: &mut [u8], work: &[u8], n: usize)
-    requires { (n ≤ 65534) × (2 * (n + 10) ≤ length work.now) × (n ≤ length out.old) }
+    requires { (2 * (n + 10) ≤ length work.now) × (n ≤ length out.old) }
     ensures { out.new ≡ put_at out.old 0 (payload_in n work.now) }
 {
     for i in 0..n {

@@ -1,5 +1,5 @@
 -- What the file reader comes to, by what its parts answered, for any block reader.
-use Prim.Native.Nat.{ℕ, ◌≤◌}
+use Prim.Native.Nat.{ℕ}
 use Rattle.file.specs.declared.Loaded.{Loaded}
 use Rattle.std.specs.Prelude.{Result, ℕ, Err, Ok}
 use native.Mathlib.Omega.{arith}
@@ -92,9 +92,6 @@ module _ {lent : (room from n : ℕ) → Outcome BlockRead} {read : BlockReader}
       read_data-no_room {r} t s = rw s (refuses outcome h b (refusal_at NoRoom 0) (rw (← fields, ← e, q) (rooms-no_room (length h) (length b) n _ t)))
 
       module _ (room : (ltb (length h) 192 || ltb (length b) n) ≡ false) where
-        pub header-room : 192 ≤ length h
-        header-room = ltb-false (length h) 192 (or-false (ltb (length h) 192) (ltb (length b) n) room).0
-
         enough : lent (length b) from n ≡ read from n
         enough =
             reader.roomy (length b) from n (measure_data-size f n (sym e ∙ ap outcome_of q))

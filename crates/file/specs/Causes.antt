@@ -1,6 +1,5 @@
 -- What holds of the causes that the file reader tells (document 02, Q-6).
-use Rattle.std.specs.Prelude.{ℕ, ◌≡◌, ◌⊎◌, List}
-use Rattle.std.specs.Prelude.{None}
+use Rattle.std.specs.Prelude.{ℕ, ◌≡◌, ◌⊎◌, List, None}
 use Rattle.refusal.specs.Refusal.{Why}
 use Rattle.refusal.specs.Outcome.{refused, accepted}
 use Rattle.pulse.specs.declared.Class.{Class}

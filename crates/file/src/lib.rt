@@ -13,15 +13,12 @@ ghost use Rattle.file.specs.File.{file, not_program, measure_data, write_blocks,
 ghost use Rattle.file.specs.Reading.{read_data, read_file, FilePromise};
 
 use header::Fields;
-use refusal::{Reason, Refusal};
+use refusal::{DATA_BLOCK, Reason, Refusal};
 
 // The types that a program file has: a program, and one that is bound to its start address. A type is a number, since every call takes any.
 const PROGRAM: u8 = 1;
 
 const FIXED_PROGRAM: u8 = 3;
-
-// The number of the data block in a refusal, as C gets it.
-const DATA_BLOCK: u32 = 1;
 
 // What an accepted file answers: type and addresses, and the end of the data block.
 #[derive(Clone, Copy)]
@@ -77,8 +74,8 @@ pub fn measure_data(fields: Fields) -> Result<usize, Refusal>
     if not_program(fields.kind) {
         return Err(Reason::WrongType.into());
     }
-    let start = fields.start as usize;
-    let end = fields.end as usize;
+    let start = usize::from(fields.start);
+    let end = usize::from(fields.end);
     if (end <= start) | (start + block::MOST_BYTES < end) {
         return Err(Reason::WrongAddresses.into());
     }

@@ -2,12 +2,12 @@
 use Prim.Native.Nat.{ℕ, ◌+◌, ◌≤◌, ◌<◌}
 use Rattle.std.specs.Prelude.{Err, Ok}
 use native.Mathlib.Omega.{arith}
-use mathlib.Core.Path.{◌≡◌, refl, sym, ap, ◌∙◌}
+use mathlib.Core.Path.{◌≡◌, refl, sym, ◌∙◌}
 use mathlib.Core.Bool.{true, false}
 use mathlib.Core.List.{List, append_assoc}
 use borrow.Rule.Slice.PartMut.{put_mid}
-use lib.ListN.{length, get_or, set, length-set}
-use lib.Seq.{sets, length-sets, sets-eq, drop-drop}
+use lib.ListN.{length, get_or, set}
+use lib.Seq.{sets, sets-eq, drop-drop}
 use Rattle.lists.specs.Text.{low_first}
 use Rattle.lists.proofs.BufferLaws.{put-room}
 use Rattle.lists.proofs.LoopLaws.{Putting, put-begun, put_one, put-done, table_left, table-begun, table-next, table-over}
@@ -44,13 +44,6 @@ module _ (before name : List ℕ) where
     name_done h = put-done u (table-over (λ j. get_or name j 0x20) 187 i h)
 
 -- ---- The whole header: the type, two words, the name
-
--- what was stored has the output's length
-pub length-one : (out : List ℕ) (k at : ℕ) (xs : List ℕ) {one : List ℕ} → one ≡ sets (set out 0 k) at xs → length one ≡ length out
-length-one out k at xs e = ap length e ∙ length-sets (set out 0 k) at xs ∙ length-set out 0 k
-
-pub length_two : (one out : List ℕ) (at : ℕ) (xs : List ℕ) {two : List ℕ} → two ≡ sets one at xs → length one ≡ length out → length two ≡ length out
-length_two one out at xs e l = ap length e ∙ length-sets one at xs ∙ l
 
 pub header-put : (out : List ℕ) (f : Fields) (name : List ℕ) {one two three : List ℕ} → one ≡ sets (set out 0 f.kind) 1 (low_first 2 f.start)
     → two ≡ sets one 3 (low_first 2 f.end) → three ≡ sets two 5 (filled name) → three ≡ sets out 0 (header_bytes f name)

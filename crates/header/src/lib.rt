@@ -7,11 +7,12 @@
 #![tactic(auto)]
 
 ghost use Rattle.std.specs.Prelude.{◌+◌, ◌≤◌, ◌≡◌, length, get_or};
-ghost use Rattle.refusal.specs.Outcome.{outcome_of};
 ghost use Rattle.std.proofs.lemmas.List.Edits.{sets};
 ghost use Rattle.lists.specs.Text.{low_first};
+ghost use Rattle.refusal.specs.Outcome.{outcome_of};
 ghost use Rattle.refusal.specs.Promise.{Written};
-ghost use Rattle.header.specs.Header.{filled, header_bytes, word_at, fields_of, wrong_name, wrong_type, pack_header, unpack_header, shown_count, shown_name, shown_place, pointer_at};
+ghost use Rattle.header.specs.Header.{filled, header_bytes, wrong_name, wrong_type, pack_header, word_at, fields_of, unpack_header};
+ghost use Rattle.header.specs.Header.{shown_count, shown_name, shown_place, pointer_at};
 
 use refusal::{Reason, Refusal};
 
@@ -137,7 +138,7 @@ fn put_word(word: u16, out: &mut [u8], at: usize)
 fn name_byte(name: &[u8], i: usize) -> u8
     ensures { result ≡ get_or name.now i 0x20 }
 {
-    if i < name.len() { name[i] } else { SPACE }
+    name.get(i).copied().unwrap_or(SPACE)
 }
 
 // Byte by byte: `copy_from_slice` and `fill` are calls of the C library, and take more stack than the interface for C states.
@@ -173,10 +174,7 @@ fn shown_count(header: &[u8]) -> usize
     requires { 21 ≤ length header.now }
     ensures { result ≡ shown_count header.now 16 }
 {
-    for i in (0..SHOWN_BYTES).rev() {
-        if header[NAME_AT + i] != SPACE {
-            return i + 1;
-        }
-    }
-    0
+    let shown = &header[NAME_AT..NAME_AT + SHOWN_BYTES];
+    let spaces = shown.iter().rev().position(|b| *b != SPACE);
+    SHOWN_BYTES - spaces.unwrap_or(SHOWN_BYTES)
 }

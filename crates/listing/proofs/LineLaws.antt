@@ -1,23 +1,38 @@
--- Laws of lines: digits, and how long a listing is.
+-- Laws of lines: a text that is copied, digits, a refusal's line, and how long a listing is.
 use Prim.Native.Nat.{ℕ, zero, suc, ◌+◌, ◌-◌, ◌*◌, ◌/◌, ◌%◌, ◌^◌, ◌≤◌, ◌<◌}
 use native.Mathlib.Nat.{pow-suc}
 use native.Mathlib.Decide.{dec_lt}
 use native.Mathlib.Omega.{arith}
-use mathlib.Core.Path.{◌≡◌, refl, sym}
+use mathlib.Core.Path.{◌≡◌, refl, sym, ap, ◌∙◌}
 use mathlib.Core.Bool.{Bool, true, false, cond}
-use mathlib.Core.List.{List, [], ◌∷◌, ◌++◌}
+use mathlib.Core.List.{List, [], ◌∷◌, ◌++◌, append_assoc}
 use borrow.Author.Tests.{lt-ltb, le-ltb}
 use lib.Dec.{ltb}
-use lib.ListN.{length, length-append, length-map}
+use lib.ListN.{length, take, length-append, length-map}
+use lib.Seq.{sets, sets-eq, drop-drop}
+use borrow.Rule.Slice.PartMut.{put_mid}
 use Rattle.std.specs.Fmt as std
 use Rattle.std.proofs.lemmas.Fmt.{AppendsLastDigit, decimal_from_appends, length-decimal-le}
 use Rattle.lists.specs.Text.{ascii}
+use Rattle.refusal.specs.declared.Reason.{Reason}
+use Rattle.refusal.specs.declared.Reason.TheVariants.{WrongSize, NoRoom, NoStart, CutShort, WrongCountdown, LostByte, WrongChecksum, WrongType, WrongAddresses, WrongTapHeader, WrongTapVersion, CutLongForm, NoTapForm, WrongLeader}
+use Rattle.refusal.specs.declared.Refusal.{Refusal}
+use Rattle.refusal.specs.Refusal.{number_of}
+use Rattle.refusal.specs.Shown.{shown}
 use Rattle.refusal.specs.Outcome.{Outcome, refused, accepted}
 use Rattle.header.specs.declared.Fields.{Fields}
 use Rattle.header.specs.Header.{shown_name}
 use Rattle.header.proofs.HeaderLaws.{shown_name-width}
 use Rattle.file.specs.Reading.{FileRead}
-use Rattle.listing.specs.Listing.{digit, digits, decimal, hexadecimal, printed, file_line, refusal_line, line, file_in, listing}
+use Rattle.listing.specs.Listing.{digit, digits, decimal, hexadecimal, newline, printed, file_line, refusal_line, line, file_in, listing}
+
+-- ---- A text that is copied into the part of a buffer from a place on (docs/PORT.md names the law)
+
+pub text-put : (out : List ℕ) (at : ℕ) (text : List ℕ) {copied : List ℕ} → at + length text ≤ length out → copied ≡ text
+    → put_mid at (at + length text - at) out copied ≡ sets out at text
+text-put out at text h e =
+    let n : at + length text - at ≡ length text = omega arith in
+    rw (e, n, drop-drop) (sym (append_assoc (take at out) text _) ∙ sym (sets-eq text out at h))
 
 -- ---- Digits
 
@@ -68,6 +83,36 @@ width-digits (suc most) n = go (ltb n 10) (width-digits most (n / 10))
 
 width-number : (n after : ℕ) → length (decimal n ++ after ∷ []) ≤ 21
 width-number n after = rw length-append (omega (arith, width-digits 20 n))
+
+-- ---- A refusal's line
+
+number_few : (reason : Reason) → number_of reason ≤ 14
+number_few WrongSize = omega arith
+number_few NoRoom = omega arith
+number_few NoStart = omega arith
+number_few CutShort = omega arith
+number_few WrongCountdown = omega arith
+number_few (LostByte causes) = omega arith
+number_few WrongChecksum = omega arith
+number_few WrongType = omega arith
+number_few WrongAddresses = omega arith
+number_few WrongTapHeader = omega arith
+number_few WrongTapVersion = omega arith
+number_few CutLongForm = omega arith
+number_few NoTapForm = omega arith
+number_few WrongLeader = omega arith
+
+-- the line is what the programs print of a refusal, and its end
+pub refusal_line-shown : (r : Refusal) → r.block < 2 ^ 64 → r.place < 2 ^ 64 → refusal_line (number_of r.reason) r.block r.place ≡ shown r ++ newline
+unfolding refusal_line ascii
+refusal_line-shown r b p =
+    let n = number_few r.reason in
+    let d = decimal (number_of r.reason) in
+    let e = decimal r.block in
+    let f = decimal r.place in
+    let end = ap (λ text. d ++ 0x20 ∷ text) (sym (append_assoc e (0x20 ∷ f) newline)) ∙ sym (append_assoc d (0x20 ∷ (e ++ 0x20 ∷ f)) newline) in
+    rw (decimal-same (number_of r.reason) (omega arith), decimal-same r.block b, decimal-same r.place p)
+    (simp append_assoc (ap (λ text. ascii "refused " ++ text) end))
 
 -- ---- How long a listing is
 

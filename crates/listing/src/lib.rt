@@ -14,7 +14,7 @@ ghost use Rattle.refusal.specs.Outcome.{mapped, puts, outcome_of};
 ghost use Rattle.file.specs.File.{data_bytes};
 ghost use Rattle.file.specs.Reading.{loaded_of, header_of};
 ghost use Rattle.listing.specs.Listing.{digit, decimal, hexadecimal, field, printed, file_line, refusal_line, file_in, listing};
-ghost use Rattle.listing.specs.private.Lines.{answer_text};
+ghost use Rattle.listing.specs.private.Lines.{answer_text, HasRoom};
 ghost use Rattle.arrayvec.specs.ArrayString.{array_string_len};
 
 use arrayvec::ArrayString;
@@ -40,7 +40,8 @@ const STRIP_ROOM: usize = MOST_INPUT - tap::TAP_HEADER_BYTES;
 type Text = ArrayString<MOST_TEXT>;
 
 // Lists the program file of a TAP file, from place 0 on: puts the text in front, and answers the number of bytes put. Where the file is
-// refused the text says so; every text fits the buffer.
+// refused the text says so; every text fits the buffer. The signature is public and stays: an array is lent, and the
+// number says where the text ends.
 pub fn list_tape(file: &[u8], out: &mut [u8; MOST_TEXT]) -> usize
     ensures count { result ≡ length (listing file.now) }
     ensures text { out.new ≡ put_at out.old 0 (listing file.now) }
@@ -54,7 +55,8 @@ pub fn list_tape(file: &[u8], out: &mut [u8; MOST_TEXT]) -> usize
     n
 }
 
-// Reads until the buffer is full or the input ends, and answers how many bytes there are. A read that fails counts as the end of the input.
+// Reads until the buffer is full or the input ends, and answers how many bytes there are, as `Read::read` of std does. A read that fails counts as
+// the end of the input.
 pub fn read_input<R: Read>(input: &mut R, buffer: &mut [u8]) -> usize
     ensures part { result ≤ length buffer.new }
     ensures kept { length buffer.new ≡ length buffer.old }
@@ -89,7 +91,7 @@ fn load(file: &[u8], header: &mut [u8; header::HEADER_BYTES]) -> Result<Loaded, 
     file::read_file(&strip[..t.count], 0, header, &mut bytes)
 }
 
-// ---- Text. Each function appends to it, and says how many bytes that needs at most.
+// ---- Text. Each function appends to it, and says how many bytes that needs at most. They differ, so that it has room is a clause of each.
 
 // The listing, by what the file reader answered and the header that it put.
 fn text_of(answer: Result<Loaded, Refusal>, header: &[u8]) -> Text
@@ -104,10 +106,10 @@ fn text_of(answer: Result<Loaded, Refusal>, header: &[u8]) -> Text
     text
 }
 
-// Not by `write!` of the refusal: its contract does not say that it succeeds where there is room.
+// Not by `write!` of the refusal: its contract does not say that it succeeds where there is room. From `usize` to `u64` it is `as`: there is no From.
 #[tactic(auto, using(std::proofs::Common::append_assoc), unfolding(crate::specs::Listing::refusal_line, lists::specs::Text::ascii))]
 fn put_refusal(r: Refusal, text: &mut Text)
-    requires { array_string_len text.old + 71 ≤ 97 }
+    requires { HasRoom text.old 71 }
     ensures { text.new.bytes ≡ text.old.bytes ++ refusal_line (number_of r.reason) r.block r.place }
 {
     text.push_str("refused ");
@@ -117,7 +119,7 @@ fn put_refusal(r: Refusal, text: &mut Text)
 }
 
 fn put_fields(fields: Fields, name: &[u8], text: &mut Text)
-    requires { array_string_len text.old + 53 + length name.now ≤ 97 }
+    requires { HasRoom text.old (53 + length name.now) }
     ensures { text.new.bytes ≡ text.old.bytes ++ file_line fields (data_bytes fields) name.now }
 {
     put_number(u64::from(fields.kind), ' ', text);
@@ -137,7 +139,7 @@ fn data_bytes(fields: Fields) -> u64
 
 // A number and a character after it.
 fn put_number(n: u64, after: char, text: &mut Text)
-    requires room { array_string_len text.old + 21 ≤ 97 }
+    requires room { HasRoom text.old 21 }
     requires ascii { after < 128 }
     ensures text { text.new.bytes ≡ text.old.bytes ++ decimal n ++ after ∷ [] }
     ensures room { array_string_len text.new ≤ array_string_len text.old + 21 }
@@ -147,10 +149,10 @@ fn put_number(n: u64, after: char, text: &mut Text)
     text.push(after);
 }
 
-// An address and a space after it.
+// An address and a space after it. Not by `write!` with `{:04X}`: its contract does not say that it succeeds where there is room.
 #[tactic(auto, using(std::proofs::Common::append_assoc), unfolding(crate::specs::Listing::hexadecimal))]
 fn put_address(address: u16, text: &mut Text)
-    requires { array_string_len text.old + 5 ≤ 97 }
+    requires { HasRoom text.old 5 }
     ensures text { text.new.bytes ≡ text.old.bytes ++ field (hexadecimal address) }
     ensures room { array_string_len text.new ≡ array_string_len text.old + 5 }
 {
@@ -173,7 +175,7 @@ fn digit_of(d: u32) -> char
 }
 
 fn put_printed(name: &[u8], text: &mut Text)
-    requires { array_string_len text.old + length name.now ≤ 97 }
+    requires { HasRoom text.old (length name.now) }
     ensures text { text.new.bytes ≡ text.old.bytes ++ map printed name.now }
     ensures room { array_string_len text.new ≡ array_string_len text.old + length name.now }
 {

@@ -1,12 +1,16 @@
 -- Laws of tests.
-use Prim.Native.Nat.{ℕ, ◌<◌}
-use native.Mathlib.Decide.{dec_le, dec_lt}
+use Prim.Native.Nat.{ℕ}
+use native.Mathlib.Decide.{dec_le, dec_lt, ℕ_discrete}
 use native.Mathlib.Omega.{arith}
-use mathlib.Core.Path.{◌≡◌, refl, sym}
+use mathlib.Core.Path.{◌≡◌, refl}
 use mathlib.Core.Logic.{◌⊎◌, inl, inr}
 use mathlib.Core.Bool.{Bool, true, false, cond, not, ◌&&◌, ◌||◌}
-use borrow.Author.Tests.{le-leb, lt-leb, le-ltb, lt-ltb}
-use lib.Dec.{leb, ltb}
+use borrow.Author.Tests.{le-leb, lt-leb, le-ltb, lt-ltb, eq-eqb, ne_eqb}
+use lib.Dec.{leb, ltb, eqb}
+use Rattle.std.specs.Ordering.{is_lt, is_le, nat_cmp}
+use Rattle.std.specs.declared.cmp.Ordering.TheVariants.{Less, Equal, Greater}
+use Rattle.std.specs.Prelude.{Option, None, Some}
+use Rattle.std.specs.Bool.{then_some}
 
 pub and-true : (a b : Bool) → (a && b) ≡ true → (a ≡ true) × (b ≡ true)
 and-true true b e = (refl, e)
@@ -42,9 +46,25 @@ cond-second false x y z h e = (refl, e)
 pub leb-not : (a b : ℕ) → leb a b ≡ not (ltb b a)
 leb-not a b = elim (dec_le a b) [ yes h ↦ rw (le-leb a b h, le-ltb b a h) | no h ↦ rw (lt-leb a b (omega arith), lt-ltb b a (omega arith)) ]
 
--- two tests that hold together
-pub ltb-same : (a b c d : ℕ) → (a < b → c < d) → (c < d → a < b) → ltb a b ≡ ltb c d
-ltb-same a b c d f g = elim (dec_lt a b) [
-  | yes h ↦ rw (lt-ltb a b h, lt-ltb c d (f h))
-  | no h ↦ rw (le-ltb a b (omega arith)) (sym (le-ltb c d (elim (dec_lt c d) [ yes l ↦ absurd (h (g l)) | no l ↦ omega arith ])))
+-- std's `then_some` by cases
+pub then_some-cond : {A : Type 0} (t : Bool) (x : A) → then_some t x ≡ cond t (Some x) None
+then_some-cond true x = refl
+then_some-cond false x = refl
+
+-- std's order of numbers, by the tests
+pub lt-cmp : (a b : ℕ) → is_lt (nat_cmp a b) ≡ ltb a b
+lt-cmp a b = go (ltb a b) (eqb a b)
+  where
+    go : (t u : Bool) → is_lt (cond t Less (cond u Equal Greater)) ≡ t
+    go true u = refl
+    go false true = refl
+    go false false = refl
+
+pub le-cmp : (a b : ℕ) → is_le (nat_cmp a b) ≡ leb a b
+le-cmp a b = elim (dec_lt a b) [
+  | yes h ↦ rw (lt-ltb a b h, le-leb a b (omega arith)) refl
+  | no h ↦ elim (ℕ_discrete a b) [
+    | yes e ↦ rw (le-ltb a b (omega arith), eq-eqb a b e, le-leb a b (omega arith)) refl
+    | no n ↦ rw (le-ltb a b (omega arith), ne_eqb a b n, lt-leb a b (omega arith)) refl
+  ]
 ]

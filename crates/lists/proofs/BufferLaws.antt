@@ -51,6 +51,11 @@ put_whole buffer values e =
     let past : length buffer ≤ length values = omega arith in
     put_front buffer values (omega arith) ∙ rw (drop_of_length-le buffer past, append-nil)
 
+-- values copied to the front, as a copy of a slice says it
+pub put-copied : (buffer values : List ℕ) {buffer' : List ℕ} → length values ≤ length buffer
+    → buffer' ≡ take (length values) values ++ drop (length values) buffer → buffer' ≡ put_at buffer 0 values
+put-copied buffer values h e = e ∙ rw (take_all (length values) values (omega arith)) (sym (put_front buffer values h))
+
 -- values put behind others, into the part of the buffer after them
 module _ (buffer xs ys : List ℕ) (fits : length xs + length ys ≤ length buffer) where
   put-append : take (length xs) (put_at buffer 0 xs) ++ put_at (drop (length xs) (put_at buffer 0 xs)) 0 ys ≡ put_at buffer 0 (xs ++ ys)

@@ -1,6 +1,5 @@
 -- Laws for loops: what is left, from the place where the loop stands, gives the whole.
 use Prim.Native.Nat.{ℕ, suc, ◌+◌, ◌-◌, ◌≤◌, ◌<◌}
-use native.Mathlib.Nat.{add-zero}
 use native.Mathlib.Numerals.{add-one}
 use native.Mathlib.Omega.{arith}
 use mathlib.Core.Path.{◌≡◌, refl, sym, ap, ap₂, ◌∙◌}
@@ -89,9 +88,6 @@ module _ {before : List ℕ} {at : ℕ} {values buffer : List ℕ} {p : ℕ} {re
 module _ (before : List ℕ) (at : ℕ) (values : List ℕ) where
   abbrev pub Copied : List ℕ → ℕ → Type 0
   Copied out i = Putting before at values out (at + i) (drop i values)
-
-  pub copy-begun : Copied before 0
-  copy-begun = put-begun before at (at + 0) _ _ (add-zero at) refl
 
   module _ {out : List ℕ} {i : ℕ} (u : Copied out i) where
     pub copy-next : i < length values → Copied (set out (at + i) (get_or values i 0)) (i + 1)

@@ -6,7 +6,9 @@ use native.Mathlib.Decide.{ℕ_discrete}
 use mathlib.Core.Path.{◌≡◌, refl, sym, ap, ap₂, ◌∙◌}
 use mathlib.Core.Bool.{Bool, true, false, cond}
 use mathlib.Core.List.{List, [], ◌∷◌, ◌++◌}
+use native.Mathlib.Numerals.{add-one}
 use Rattle.std.specs.Prelude.{Option, None, Some}
+use Rattle.std.specs.List.{position_from}
 use lib.ListN.{length, get_or, set}
 use Rattle.lists.specs.Places.{Below, first_from, First, tabulate}
 
@@ -62,6 +64,32 @@ first_some {f} {count = suc count} {at} {p} r = elim (ℕ_discrete at p) [
 abbrev pub or_else : Option ℕ → Option ℕ → Option ℕ
 or_else None later = later
 or_else (Some i) later = Some i
+
+-- a search through a list, and through its places
+pub position-first : {A : Type 0} (p : A → Bool) (f : ℕ → Bool) (d : A) (xs : List A) (at : ℕ) → ((k : ℕ) → k < length xs → p (get_or xs k d) ≡ f (at + k)) → position_from p at xs ≡ first_from f (length xs) at
+unfolding first_from
+position-first p f d [] at h = refl
+position-first p f d (x ∷ xs) at h =
+    let here : p x ≡ f at = h 0 (omega arith) ∙ ap f (add-zero at) in
+    let later = position-first p f d xs (at + 1) (λ k b. h (suc k) (omega arith) ∙ ap f (let z : at + suc k ≡ at + 1 + k = omega arith in z)) in
+    rw (here, later, add-one)
+
+-- a place found, counted from further on
+abbrev pub shifted : ℕ → Option ℕ → Option ℕ
+shifted at None = None
+shifted at (Some i) = Some (at + i)
+
+position-further : {A : Type 0} (p : A → Bool) (xs : List A) (at from : ℕ) → position_from p (at + from) xs ≡ shifted at (position_from p from xs)
+position-further p [] at from = refl
+position-further p (x ∷ xs) at from = go (p x) (position-further p xs at (from + 1))
+  where
+    go : (t : Bool) → position_from p (at + (from + 1)) xs ≡ shifted at (position_from p (from + 1) xs)
+        → cond t (Some (at + from)) (position_from p (at + from + 1) xs) ≡ shifted at (cond t (Some from) (position_from p (from + 1) xs))
+    go true e = refl
+    go false e = ap (λ k. position_from p k xs) (let z : at + from + 1 ≡ at + (from + 1) = omega arith in z) ∙ e
+
+pub position-shifted : {A : Type 0} (p : A → Bool) (xs : List A) (at : ℕ) → position_from p at xs ≡ shifted at (position_from p 0 xs)
+position-shifted p xs at = ap (λ k. position_from p k xs) (sym (add-zero at)) ∙ position-further p xs at 0
 
 -- one number more, at the end
 pub first-snoc : (f : ℕ → Bool) (count at : ℕ) → first_from f (suc count) at ≡ or_else (first_from f count at) (first_from f 1 (at + count))

@@ -1,17 +1,15 @@
 -- Laws of numbers as bytes and of equal lists.
-use Prim.Native.Nat.{ℕ, zero, suc, ◌+◌, ◌*◌, ◌/◌, ◌^◌, ◌≤◌, ◌<◌}
+use Prim.Native.Nat.{ℕ, zero, suc, ◌+◌, ◌*◌, ◌/◌, ◌^◌, ◌<◌}
 use native.Mathlib.Nat.{pow-suc}
 use native.Mathlib.Omega.{arith}
 use mathlib.Core.Path.{◌≡◌, refl, sym, ap, ap₂}
 use mathlib.Core.Bool.{Bool, true, false}
 use mathlib.Core.List.{List, [], ◌∷◌}
 use borrow.Author.Tests.{eqb-true, eq-eqb}
-use lib.Dec.{eqb, lit<}
+use lib.Dec.{eqb}
 use Rattle.std.proofs.Math.Nat.{div-div-eq-div-mul}
 use Rattle.std.specs.Int.{w32, to_le_bytes}
-use lib.ListN.{length, take, drop, get_or, length-take, length-drop}
-use lib.Seq.{take_all, length-take-le, get_or-drop}
-use Rattle.lists.specs.Places.{part, Below}
+use lib.ListN.{length, take, get_or}
 use Rattle.lists.specs.Text.{low_first, from_low, equal}
 use Rattle.lists.proofs.BoolLaws.{and-true, not-holds}
 
@@ -44,31 +42,6 @@ from_low-four (a ∷ []) = omega arith
 from_low-four (a ∷ b ∷ []) = omega arith
 from_low-four (a ∷ b ∷ c ∷ []) = omega arith
 from_low-four (a ∷ b ∷ c ∷ d ∷ bytes) = omega arith
-
-below-take : (n : ℕ) (bytes : List ℕ) → Below 256 bytes → Below 256 (take n bytes)
-below-take zero bytes h i = lit< tt
-below-take (suc n) [] h i = h i
-below-take (suc n) (b ∷ bytes) h zero = h 0
-below-take (suc n) (b ∷ bytes) h (suc i) = below-take n bytes (λ j. h (suc j)) i
-
-from_low-lt : (bytes : List ℕ) → Below 256 bytes → from_low bytes < 256 ^ length bytes
-unfolding from_low
-from_low-lt [] below = lit< tt
-from_low-lt (b ∷ bytes) below =
-    let h = below 0 in
-    let r = from_low-lt bytes (λ i. below (suc i)) in
-    rw (pow-suc 256 (length bytes)) (omega arith)
-
--- a part of at most four bytes, which `from_low_lem` reads whole
-module _ (bytes : List ℕ) (at n : ℕ) where
-  pub from_low-part : n ≤ 4 → from_low (take 4 (part bytes at n)) ≡ from_low (part bytes at n)
-  from_low-part h = ap from_low (take_all 4 (part bytes at n) (rw length-take (omega arith)))
-
-  pub from_low-part-lt : Below 256 bytes → at + n ≤ length bytes → from_low (part bytes at n) < 256 ^ n
-  from_low-part-lt below h =
-      let long : length (part bytes at n) ≡ n = length-take-le n (drop at bytes) (rw length-drop (omega arith)) in
-      let r = from_low-lt (part bytes at n) (below-take n (drop at bytes) (λ i. rw (get_or-drop at bytes i 0) (below (at + i)))) in
-      rw long at r
 
 -- ---- equal
 

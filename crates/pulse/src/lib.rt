@@ -18,7 +18,7 @@ pub enum Class {
 }
 
 // A number of CPU cycles.
-#[derive(Clone, Copy)]
+#[derive(Clone, Copy, PartialEq, PartialOrd)]
 pub struct Cycles(pub u32);
 
 // Where each class begins, and where noise begins again.
@@ -30,19 +30,17 @@ pub struct Thresholds {
     pub noise: Cycles,
 }
 
-pub const FIXED: Thresholds = Thresholds {
-    short: Cycles(200),
-    medium: Cycles(440),
-    long: Cycles(608),
-    noise: Cycles(960),
-};
-
 impl Thresholds {
     // The thresholds for a deck that runs at its proper speed.
     pub fn fixed() -> Thresholds
         ensures { result ≡ fixed }
     {
-        FIXED
+        Thresholds {
+            short: Cycles(200),
+            medium: Cycles(440),
+            long: Cycles(608),
+            noise: Cycles(960),
+        }
     }
 }
 
@@ -51,14 +49,13 @@ impl Thresholds {
 pub fn class_of(t: Thresholds, pulse: Cycles) -> Class
     ensures { result ≡ class_of t pulse.0 }
 {
-    let cycles = pulse.0;
-    if cycles < t.short.0 {
+    if pulse < t.short {
         Class::Noise
-    } else if cycles < t.medium.0 {
+    } else if pulse < t.medium {
         Class::Short
-    } else if cycles < t.long.0 {
+    } else if pulse < t.long {
         Class::Medium
-    } else if cycles < t.noise.0 {
+    } else if pulse < t.noise {
         Class::Long
     } else {
         Class::Noise
@@ -69,22 +66,19 @@ pub fn class_of(t: Thresholds, pulse: Cycles) -> Class
 pub fn is_short(t: Thresholds, pulse: Cycles) -> bool
     ensures { result ≡ same (class_of t pulse.0) Class.Short }
 {
-    let cycles = pulse.0;
-    (t.short.0 <= cycles) & (cycles < t.medium.0)
+    (t.short <= pulse) & (pulse < t.medium)
 }
 
 pub fn is_medium(t: Thresholds, pulse: Cycles) -> bool
     ensures { result ≡ same (class_of t pulse.0) Class.Medium }
 {
-    let cycles = pulse.0;
-    (t.short.0 <= cycles) & (t.medium.0 <= cycles) & (cycles < t.long.0)
+    (t.short <= pulse) & (t.medium <= pulse) & (pulse < t.long)
 }
 
 pub fn is_long(t: Thresholds, pulse: Cycles) -> bool
     ensures { result ≡ same (class_of t pulse.0) Class.Long }
 {
-    let cycles = pulse.0;
-    (t.short.0 <= cycles) & (t.medium.0 <= cycles) & (t.long.0 <= cycles) & (cycles < t.noise.0)
+    (t.short <= pulse) & (t.medium <= pulse) & (t.long <= pulse) & (pulse < t.noise)
 }
 
 pub const SHORT_CYCLES: Cycles = Cycles(360);
@@ -106,38 +100,32 @@ pub fn written_as(c: Class) -> Cycles
 }
 
 // A number of TAP units, of eight cycles each.
-#[derive(Clone, Copy)]
+#[derive(Clone, Copy, PartialEq, PartialOrd)]
 pub struct Units(pub u32);
 
 const UNIT_CYCLES: u32 = 8;
 
-// The largest number of units whose cycles a pulse can count.
-const MOST_UNITS: Units = Units(0x1fff_ffff);
-
-// A number of units in cycles. There is none where it does not fit a pulse's 32 bits.
+// A number of units in cycles. There is none where it does not fit a pulse's 32 bits. Document 01 asks for a named conversion, so it is no TryFrom.
 pub fn cycles_of(u: Units) -> Option<Cycles>
     ensures { result ≡ cycles_of u }
 {
-    let units = u.0;
-    if units <= MOST_UNITS.0 {
-        Some(Cycles(units * UNIT_CYCLES))
-    } else {
-        None
-    }
+    let cycles = u.0.checked_mul(UNIT_CYCLES)?;
+    Some(Cycles(cycles))
 }
 
 // The cycles of as many units as one byte counts. These always fit.
 pub fn byte_cycles(units: u8) -> Cycles
     ensures { result.0 ≡ byte_cycles units }
 {
-    Cycles(units as u32 * UNIT_CYCLES)
+    Cycles(u32::from(units) * UNIT_CYCLES)
 }
 
-// A number of cycles in units. There is none for one between two units.
+// A number of cycles in units, by name too. There is none for one between two units.
 pub fn units_of(c: Cycles) -> Option<Units>
     ensures { result ≡ units_of c }
 {
     let cycles = c.0;
+    // With `then_some` writing a TAP file takes a tenth more time.
     if cycles % UNIT_CYCLES == 0 {
         Some(Units(cycles / UNIT_CYCLES))
     } else {

@@ -1,6 +1,5 @@
 -- Refusals (document 01, 'Refusal numbers').
-use Rattle.std.specs.Prelude.{ℕ}
-use Rattle.std.specs.Prelude.{Option, None, Some}
+use Rattle.std.specs.Prelude.{ℕ, Option, None, Some}
 use Rattle.refusal.specs.declared.Causes.{Causes}
 use Rattle.refusal.specs.declared.Reason.{Reason}
 use Rattle.refusal.specs.declared.Reason.TheVariants.{WrongSize, NoRoom, NoStart, CutShort, WrongCountdown, LostByte, WrongChecksum, WrongType, WrongAddresses, WrongTapHeader, WrongTapVersion, CutLongForm, NoTapForm, WrongLeader}

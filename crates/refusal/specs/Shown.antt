@@ -1,4 +1,4 @@
--- A refusal as the programs print it; the listing's `refusal_line` is the same with a line's end.
+-- A refusal as the programs print it; the listing's `refusal_line` is the same with a line's end (`listing/LineLaws.refusal_line-shown`).
 use Rattle.std.specs.Prelude.{List, ℕ, ◌++◌, codes}
 use Rattle.std.specs.Fmt.{decimal}
 use Rattle.refusal.specs.declared.Refusal.{Refusal}

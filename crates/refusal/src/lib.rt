@@ -7,7 +7,7 @@ ghost use Rattle.refusal.specs.Refusal.{number_of, causes_of, or_none, refusal_a
 use std::fmt;
 
 // Why a lost byte is bad, in copy one and in copy two: the first of its pairs that is wrong, 0 for the marker to 9 for the parity bit, or 10 where
-// none is wrong and the number of ones is even.
+// none is wrong and the number of ones is even: the numbers that C gets.
 #[derive(Clone, Copy)]
 pub struct Causes {
     pub one: u8,
@@ -69,7 +69,12 @@ impl Reason {
     }
 }
 
-// The block is 0 for a header or a lone block and 1 for a program file's data block. The place is 0 where the reason names none.
+// The blocks that a refusal names, by their numbers, which C gets: a header or a lone block, and a program file's data block.
+pub const HEADER_BLOCK: u32 = 0;
+
+pub const DATA_BLOCK: u32 = 1;
+
+// The place is 0 where the reason names none, as C gets it.
 #[derive(Clone, Copy)]
 pub struct Refusal {
     pub reason: Reason,
@@ -84,7 +89,7 @@ impl Refusal {
     {
         Refusal {
             reason,
-            block: 0,
+            block: HEADER_BLOCK,
             place,
         }
     }

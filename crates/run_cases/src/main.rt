@@ -1,5 +1,6 @@
 // The cases of document 01 that are run and compared: the largest payload, one byte more, a leader that is too short, how many short
-// pulses a start needs before it; and its example of a program file, damaged and read back.
+// pulses a start needs before it; and its example of a program file, damaged and read back. A block's limits are those of `block`; all other figures
+// are written out, since they are what is tested.
 #![tactic(auto)]
 
 ghost use Rattle.std.specs.Prelude.{◌+◌, ◌≤◌, length};
@@ -11,7 +12,7 @@ use refusal::Refusal;
 use std::io;
 use std::io::Write;
 
-const LEADER: usize = 64;
+const LEADER: usize = block::LEAST_LEADER;
 
 // The pulses of a block with this leader: of one byte, and of 8,192.
 const SMALL_STRIP: usize = 626;
@@ -43,12 +44,15 @@ fn main(rt: HostRuntime) -> io::Result<()> {
 
 // Writes the largest payload and reads it back.
 fn largest(rt: &HostRuntime) -> io::Result<()> {
-    let mut payload = [0u8; 8192];
+    let mut payload = [0u8; block::MOST_BYTES];
     number_bytes(&mut payload);
     let mut strip = [0u32; LARGE_STRIP];
-    let mut out = [0u8; 8192];
+    let mut out = [0u8; block::MOST_BYTES];
     say_put(rt, block::write_block(&payload, LEADER, &mut strip))?;
-    say_block(rt, block::read_block(&strip, 0, 8192, &mut out))?;
+    say_block(
+        rt,
+        block::read_block(&strip, 0, block::MOST_BYTES, &mut out),
+    )?;
     if payload == out {
         println!(rt; "the payload written")
     } else {
@@ -57,7 +61,7 @@ fn largest(rt: &HostRuntime) -> io::Result<()> {
 }
 
 fn too_large(rt: &HostRuntime) -> io::Result<()> {
-    let payload = [0u8; 8193];
+    let payload = [0u8; block::MOST_BYTES + 1];
     let mut strip = [0u32; LARGE_STRIP];
     say_put(rt, block::write_block(&payload, LEADER, &mut strip))
 }
@@ -116,11 +120,10 @@ fn spoil(strip: &mut [u32], at: usize)
     strip[at..at + 3].fill(0);
 }
 
+// From 0 to 250, and again from 0.
 fn number_bytes(bytes: &mut [u8]) {
-    let mut next: u8 = 0;
-    for byte in bytes.iter_mut() {
-        *byte = next;
-        next = if next < 250 { next + 1 } else { 0 };
+    for (i, byte) in bytes.iter_mut().enumerate() {
+        *byte = (i % 251) as u8;
     }
 }
 

@@ -2,14 +2,16 @@
 use Prim.Native.Nat.{ℕ, zero, suc, ◌+◌, ◌-◌, ◌≤◌, ◌<◌}
 use native.Mathlib.Decide.{dec_lt, ℕ_discrete}
 use native.Mathlib.Omega.{arith}
-use mathlib.Core.Path.{◌≡◌, refl, sym, ap}
+use mathlib.Core.Path.{◌≡◌, refl, sym, ap, ◌∙◌}
 use mathlib.Core.Bool.{Bool, true, false, not}
 use mathlib.Core.List.{List}
 use Rattle.std.specs.Prelude.{None, Some}
+use Rattle.std.specs.List.{position_from}
 use borrow.Author.Tests.{not-false}
-use lib.ListN.{length, get_or}
+use lib.ListN.{length, take, drop, get_or, length-drop}
+use lib.Seq.{get_or-drop, take_all}
 use Rattle.lists.specs.Places.{first_from, First}
-use Rattle.lists.proofs.PlaceLaws.{none_first, some_first}
+use Rattle.lists.proofs.PlaceLaws.{none_first, some_first, position-first, shifted, position-shifted}
 use Rattle.pulse.specs.declared.Thresholds.{Thresholds}
 use Rattle.pulse.specs.declared.Class.{Class}
 use Rattle.pulse.specs.declared.Class.TheVariants.{Short, Noise}
@@ -66,6 +68,27 @@ module _ (f : ℕ → Bool) (at : ℕ) where
 
 pub not-short-at : (t : Thresholds) (strip : List ℕ) (i : ℕ) → i < length strip → not_short (classes t strip) i ≡ not (same (class_of t (get_or strip i 0)) Short)
 not-short-at t strip i h = ap (λ c. not (same c Short)) (class-at t strip i h)
+
+-- the search through the rest of a strip
+module _ (t : Thresholds) (strip : List ℕ) (at : ℕ) where
+  abbrev pub other : ℕ → Bool
+  other pulse = not (same (class_of t pulse) Short)
+
+  first-in_rest : position_from other at (drop at strip) ≡ first_from (not_short (classes t strip)) (length strip - at) at
+  first-in_rest =
+      position-first other (not_short (classes t strip)) 0 (drop at strip) at (λ k b.
+      let within : at + k < length strip = omega (arith, b, length-drop at strip) in
+      ap other (get_or-drop at strip k 0) ∙ sym (not-short-at t strip (at + k) within))
+      ∙ ap (λ n. first_from (not_short (classes t strip)) n at) (length-drop at strip)
+
+  pub rest-whole : {rest : List ℕ} → rest ≡ take (length strip - at) (drop at strip) → rest ≡ drop at strip
+  rest-whole e = e ∙ take_all (length strip - at) (drop at strip) (omega (arith, length-drop at strip))
+
+  pub rest-none : position_from other 0 (drop at strip) ≡ None → None ≡ first_from (not_short (classes t strip)) (length strip - at) at
+  rest-none e = sym (ap (shifted at) e) ∙ sym (position-shifted other (drop at strip) at) ∙ first-in_rest
+
+  pub rest-some : {i : ℕ} → position_from other 0 (drop at strip) ≡ Some i → Some (at + i) ≡ first_from (not_short (classes t strip)) (length strip - at) at
+  rest-some e = sym (ap (shifted at) e) ∙ sym (position-shifted other (drop at strip) at) ∙ first-in_rest
 
 module _ (cs : List Class) (i : ℕ) where
   is-short : not_short cs i ≡ false → get_or cs i Noise ≡ Short

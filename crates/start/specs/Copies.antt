@@ -1,8 +1,7 @@
 -- Where the copies of a block lie (document 01, 'Blocks', and 'Reading a block', rule 2).
-use Rattle.std.specs.Prelude.{ℕ, ◌+◌, ◌*◌, cond, ltb, Result, Err, Ok}
-use Rattle.refusal.specs.declared.Refusal.{Refusal}
+use Rattle.std.specs.Prelude.{ℕ, ◌+◌, ◌*◌, cond, ltb}
 use Rattle.refusal.specs.declared.Reason.TheVariants.{CutShort}
-use Rattle.refusal.specs.Outcome.{Outcome, accepted, refuse, refused_with}
+use Rattle.refusal.specs.Outcome.{Outcome, accepted, refuse}
 use Rattle.start.specs.declared.Copies.{Copies}
 
 -- a copy of n payload bytes has n + 10 byte places

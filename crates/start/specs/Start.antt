@@ -1,6 +1,5 @@
 -- The start of a block (document 01, 'Reading a block', rule 1), on the classes of a strip.
 use Rattle.std.specs.Prelude.{ℕ, ◌+◌, ◌-◌, ◌≤◌, ◌≡◌, Bool, true, ◌&&◌, List, [], ◌∷◌, leb, length, replicate, Option, None, Some}
-use Rattle.std.specs.Prelude.{Option, None, Some}
 use Rattle.lists.specs.Places.{first_from, part}
 use Rattle.refusal.specs.declared.Reason.TheVariants.{NoStart}
 use Rattle.refusal.specs.Outcome.{Outcome, accepted, refuse}

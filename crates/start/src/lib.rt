@@ -15,14 +15,19 @@ ghost use Rattle.start.specs.private.Search.{not_short, last_from};
 use pulse::{Cycles, Thresholds};
 use refusal::{Reason, Refusal};
 
-// The short pulses that a start has just before it, and the byte that it has from there on.
-const SYNC_SHORTS: usize = 16;
+// The short pulses that a start has just before it.
+pub const SYNC_SHORTS: usize = 16;
 
-const SYNC_BYTE: u8 = 0x89;
+// The first countdown byte of copy one, which a start has from there on, and that of copy two.
+pub const FIRST_OF_ONE: u8 = 0x89;
+
+pub const FIRST_OF_TWO: u8 = 0x09;
 
 // The bytes of a copy beside the payload: nine of countdown and the checksum.
 pub const COUNTDOWN_BYTES: usize = 9;
 
+// So a copy of n payload bytes has BYTE_PULSES * (n + EXTRA_BYTES) pulses. It is written out where it is needed: a public function for it takes any
+// n, and would have to refuse one whose pulses are too many.
 pub const EXTRA_BYTES: usize = COUNTDOWN_BYTES + 1;
 
 // The pulses of a trailer, which follows each copy: a long one and short ones.
@@ -76,6 +81,7 @@ fn last_not_short(t: Thresholds, strip: &[u32], at: usize) -> Option<usize>
     requires { at + 16 ≤ length strip.now }
     ensures { result ≡ last_from (not_short (classes t strip.now)) 16 at }
 {
+    // With `rposition` the proof did not close; by `rev` and `position` the place would have to be counted back from the end.
     for i in (0..SYNC_SHORTS).rev() {
         if !pulse::is_short(t, Cycles(strip[at + i])) {
             return Some(at + i);
@@ -88,12 +94,11 @@ fn last_not_short(t: Thresholds, strip: &[u32], at: usize) -> Option<usize>
 fn first_not_short(t: Thresholds, strip: &[u32], at: usize) -> Option<usize>
     ensures { result ≡ first_from (not_short (classes t strip.now)) (length strip.now - at) at }
 {
-    for i in at..strip.len() {
-        if !pulse::is_short(t, Cycles(strip[i])) {
-            return Some(i);
-        }
-    }
-    None
+    let rest = strip.get(at..)?;
+    let first = rest
+        .iter()
+        .position(|pulse| !pulse::is_short(t, Cycles(*pulse)))?;
+    Some(at + first)
 }
 
 // Rule 1. The search looks at the sixteen pulses from `at` on, the last one first. A pulse that is not short rules out the sixteen places
@@ -119,10 +124,11 @@ pub fn find_start(t: Thresholds, strip: &[u32], from: usize) -> Option<usize>
         if strip.len().saturating_sub(end) < byte::BYTE_PULSES {
             break 'search None;
         }
+        // Document 01 names the form of this look: it leaves by a label.
         'look: {
             for i in 0..byte::PAIRS {
                 let j = end + byte::PAIR_PULSES * i;
-                if !byte::pair_fits(t, SYNC_BYTE, i, Cycles(strip[j]), Cycles(strip[j + 1])) {
+                if !byte::pair_fits(t, FIRST_OF_ONE, i, Cycles(strip[j]), Cycles(strip[j + 1])) {
                     break 'look;
                 }
             }

@@ -32,18 +32,6 @@ module _ (bytes : List ℕ) where
   not0 j t = eqb-false (get_or bytes j 0) 0 (not-true (eqb (get_or bytes j 0) 0) t)
 
   module _ (start : ℕ) where
-    pub apart-begun : Apart bytes start start 0
-    apart-begun = record {
-      place = start;
-      low = omega arith;
-      high = omega arith;
-      few = omega arith;
-      counted = λ count v. let e : count + (start - start) - 3 * 0 ≡ count = omega arith in rw e v;
-      long = λ j a b z. omega arith;
-      last = λ h. absurd (omega arith);
-      clear = λ j a b z. omega arith;
-    }
-
     module _ {i zeros : ℕ} (u : Apart bytes start i zeros) (from : start ≤ i) where
       -- in a long form
       apart-inside : i < u.place → Apart bytes start (i + 1) zeros

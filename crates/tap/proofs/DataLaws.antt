@@ -6,8 +6,8 @@ use mathlib.Core.Path.{◌≡◌, refl, sym, ap, ◌∙◌}
 use mathlib.Core.Bool.{true}
 use mathlib.Core.List.{List, [], ◌∷◌, ◌++◌, map}
 use borrow.Author.Tests.{eq-eqb, ne_eqb}
-use lib.ListN.{length, take, drop, get_or, length-take, length-drop, length-map, drop_of_length-le, take-append-drop}
-use lib.Seq.{take_all, drop-drop, get_or-drop, length-take-le}
+use lib.ListN.{length, drop, get_or, length-drop, length-map, drop_of_length-le, take-append-drop}
+use lib.Seq.{drop-drop, get_or-drop, length-take-le}
 use Rattle.lists.specs.Places.{part}
 use Rattle.lists.specs.Text.{from_low}
 use Rattle.refusal.specs.declared.Reason.TheVariants.{CutLongForm}
@@ -137,14 +137,6 @@ module _ (bytes : List ℕ) (i : ℕ) where
   pub durations_from-over : length bytes ≤ i → durations_from bytes i ≡ accepted []
   unfolding durations_in
   durations_from-over h = rw (drop_of_length-le bytes {i = i} h)
-
--- ---- What the long form counts
-
--- the part that the code lends to `from_low_lem`, which counts no more than four bytes, has the three after the first
-pub long_cycles-part : (bytes : List ℕ) (i : ℕ) → from_low (take 4 (part bytes (i + 1) (i + 4 - (i + 1)))) ≡ long_cycles bytes i
-long_cycles-part bytes i =
-    let three : i + 4 - (i + 1) ≡ 3 = omega arith in
-    ap (λ n. from_low (take 4 (part bytes (i + 1) n))) three ∙ ap from_low (take_all 4 (part bytes (i + 1) 3) (omega (arith, length-take 3 (drop (i + 1) bytes))))
 
 -- ---- How many durations there are
 

@@ -129,6 +129,12 @@ module _ (d : ℕ) where
       ]
     ]
 
+    -- so its length tells which (docs/DECISIONS.md names the law)
+    pub form_of-one : length (form_of v d) ≡ 1 → form_of v d ≡ byte_units d ∷ []
+    unfolding low_first
+    form_of-one l =
+        ⊎_elim (λ e. e) (λ w. ⊎_elim (λ e. absurd (let m = ap length e in omega arith)) (λ e. absurd (let m = ap length e in omega arith)) w) form_of-either
+
     pub width-form_of : length (form_of v d) ≤ 4
     unfolding low_first
     width-form_of = ⊎_elim (λ e. rw e (omega arith)) (λ w. ⊎_elim (λ e. rw e (omega arith)) (λ e. rw e (omega arith)) w) form_of-either

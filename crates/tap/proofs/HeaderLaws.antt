@@ -1,17 +1,17 @@
 -- Reading the header: what the calls come to.
-use Prim.Native.Nat.{ℕ, ◌-◌, ◌≤◌, ◌<◌}
+use Prim.Native.Nat.{ℕ, ◌+◌, ◌*◌, ◌-◌, ◌≤◌, ◌<◌}
 use native.Mathlib.Omega.{arith}
-use mathlib.Core.Path.{◌≡◌}
+use mathlib.Core.Path.{◌≡◌, sym, ◌∙◌}
 use mathlib.Core.Bool.{Bool, true, false, not}
 use mathlib.Core.List.{List, [], ◌∷◌}
 use borrow.Author.Tests.{lt-ltb, le-ltb, ltb-false}
 use lib.Dec.{eqb, ltb}
 use lib.ListN.{length, take, drop, get_or, length-drop}
-use lib.Seq.{take-take}
+use lib.Seq.{get_or-drop}
 use Rattle.lists.specs.Places.{part}
 use Rattle.lists.specs.Text.{from_low, equal}
 use Rattle.lists.proofs.BoolLaws.{or-false}
-use Rattle.lists.proofs.TextLaws.{equal_is}
+use Rattle.lists.proofs.TextLaws.{from_low-four, equal_is}
 use Rattle.refusal.specs.declared.Reason.TheVariants.{WrongTapHeader, WrongTapVersion}
 use Rattle.refusal.specs.declared.Refusal.{Refusal}
 use Rattle.refusal.specs.Refusal.{refusal_at}
@@ -26,21 +26,22 @@ Same r xs ys = (r ≡ true → xs ≡ ys) × (xs ≡ ys → r ≡ true)
 module _ (file : List ℕ) where
   -- ---- Letters
 
-  pub wrong_letters-short : length file < 20 → true ≡ wrong_letters file
-  wrong_letters-short h = rw (lt-ltb (length file) 20 h)
-
   module _ (long : 20 ≤ length file) where
     pub wrong_letters-same : {r : Bool} → Same r (take 12 file) letters → not r ≡ wrong_letters file
     wrong_letters-same {r} s = rw (le-ltb (length file) 20 long, equal_is r (take 12 file) letters s)
 
     -- ---- Reserved bytes and count
 
+    count-bytes : from_low (part file 16 4) ≡ get_or file 16 0 + get_or file 17 0 * 256 + get_or file 18 0 * 65536 + get_or file 19 0 * 16777216
+    count-bytes = from_low-four (drop 16 file) ∙ rw (get_or-drop 16 file 0 0, get_or-drop 16 file 1 0, get_or-drop 16 file 2 0, get_or-drop 16 file 3 0) (omega arith)
+
     module _ {r : Bool} (s : Same r (part file 13 3) (0 ∷ 0 ∷ 0 ∷ [])) where
       pub wrong_count-reserved : r ≡ false → true ≡ wrong_count file
       wrong_count-reserved e = rw (← (equal_is r (part file 13 3) (0 ∷ 0 ∷ 0 ∷ []) s), e)
 
-      pub wrong_count-number : {count : ℕ} → r ≡ true → count ≡ from_low (take 4 (part file 16 4)) → not (eqb count (length file - 20)) ≡ wrong_count file
-      wrong_count-number e l = rw (← (equal_is r (part file 13 3) (0 ∷ 0 ∷ 0 ∷ []) s), e, l, take-take 4 4 (drop 16 file) (omega arith), length-drop)
+      pub wrong_count-number : {count : ℕ} → r ≡ true → count ≡ get_or file 16 0 + get_or file 17 0 * 256 + get_or file 18 0 * 65536 + get_or file 19 0 * 16777216
+          → not (eqb count (length file - 20)) ≡ wrong_count file
+      wrong_count-number e l = rw (← (equal_is r (part file 13 3) (0 ∷ 0 ∷ 0 ∷ []) s), e, l ∙ sym count-bytes, length-drop)
 
   -- ---- The header
 

@@ -2,7 +2,6 @@
 use Prim.Native.Nat.{ℕ, ◌+◌, ◌-◌, ◌≤◌, ◌<◌}
 use Rattle.tap.specs.declared.TapInfo.{TapInfo}
 use Rattle.std.specs.Prelude.{Result, Err, Ok}
-use native.Mathlib.Nat.{zero-add}
 use native.Mathlib.Decide.{ℕ_discrete, dec_le}
 use native.Mathlib.Omega.{arith}
 use mathlib.Core.Path.{◌≡◌, refl, sym, ap, ap₂, ◌∙◌}
@@ -30,15 +29,8 @@ counted-more : (count : ℕ) (xs : List ℕ) (o : Outcome (List ℕ))
 counted-more count xs (refused why) = refl
 counted-more count xs (accepted ds) = ap accepted (let l = length-append xs ds in let z : count + length xs + length ds ≡ count + length (xs ++ ds) = omega arith in z)
 
-counted_none : (o : Outcome (List ℕ)) → mapped (λ ds. 0 + length ds) o ≡ mapped length o
-counted_none (refused why) = refl
-counted_none (accepted ds) = rw zero-add
-
 module _ (bytes : List ℕ) where
   -- ---- Counting
-
-  pub count-begun : Counted bytes 0 0
-  count-begun = record { within = omega arith; few = omega arith; whole = counted_none (durations_in 1 0 bytes) }
 
   module _ {i count : ℕ} (u : Counted bytes i count) where
     pub count-step : {i' : ℕ} {xs : List ℕ} → DurationsBetween bytes i i' xs → Counted bytes i' (count + length xs)
@@ -103,9 +95,6 @@ module _ (bytes : List ℕ) where
           fillable = record { within = s.within; sound = n.0; room = omega (arith, u.fillable.room) };
           whole = ap₂ (λ b j. sets b j (puts (durations_from bytes i'))) p q ∙ sym (sets-append xs (puts (durations_from bytes i')) out k) ∙ ap (sets out k) (sym n.1) ∙ u.whole;
         }
-
-    pub fill-then : {i' k' : ℕ} {out' : List ℕ} → FilledTo bytes i out k i' out' k' → FilledTo bytes i₀ out₀ k₀ i' out' k'
-    fill-then v = record { fillable = v.fillable; whole = v.whole ∙ u.whole }
 
     pub fill-length : length out ≡ length out₀
     fill-length = sym (length-sets out k (puts (durations_from bytes i))) ∙ ap length u.whole ∙ length-sets out₀ k₀ (puts (durations_from bytes i₀))

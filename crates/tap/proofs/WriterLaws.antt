@@ -1,7 +1,6 @@
 -- Writing: what the loops keep, and what the calls come to.
 use Prim.Native.Nat.{ℕ, suc, ◌+◌, ◌-◌, ◌*◌, ◌≤◌, ◌<◌}
-use native.Mathlib.Nat.{add-zero, zero-add}
-use native.Mathlib.Numerals.{add-one}
+use native.Mathlib.Nat.{zero-add}
 use native.Mathlib.Omega.{arith}
 use mathlib.Core.Path.{◌≡◌, refl, sym, ap, ◌∙◌}
 use mathlib.Core.Bool.{Bool, true, false, ◌||◌}
@@ -16,11 +15,11 @@ use borrow.Author.Tests.{lt-ltb, le-ltb}
 use lib.Dec.{eqb}
 use lib.ListN.{length, take, drop, get_or, set, length-append, length-set}
 use lib.Seq.{sets, sets-eq, drop-drop}
-use Rattle.lists.specs.Places.{first_from}
 use Rattle.lists.specs.Text.{ascii, low_first}
+use Rattle.lists.proofs.PlaceLaws.{position-first}
 use Rattle.lists.proofs.TextLaws.{le_bytes-low}
 use Rattle.lists.proofs.BufferLaws.{put-room, put_front, sets-append}
-use Rattle.lists.proofs.LoopLaws.{first_left, first-begun, first-passed, first-here, first-over, Putting, put-begun, put_next, put-done}
+use Rattle.lists.proofs.LoopLaws.{first_left, first-passed, first-here, first-over, Putting, put_next, put-done}
 use Rattle.refusal.specs.declared.Reason.TheVariants.{WrongSize, NoRoom, WrongTapVersion, NoTapForm}
 use Rattle.refusal.specs.declared.Refusal.{Refusal}
 use Rattle.refusal.specs.Refusal.{refusal_at}
@@ -60,22 +59,9 @@ sum_either : (m : Bool) (n : ℕ) → then_some (not m) n ≡ cond m None (Some 
 sum_either true n = refl
 sum_either false n = refl
 
-none_either : (m : Bool) (n : ℕ) → cond m None (Some n) ≡ None → m ≡ true
-none_either true n e = refl
-none_either false n e = absurd (let z : ◌≡◌ {A = ℕ} 0 1 = cc in omega arith)
-
 some_either : (m : Bool) (n : ℕ) {k : ℕ} → cond m None (Some n) ≡ Some k → (m ≡ false) × (k ≡ n)
 some_either true n e = absurd (let z : ◌≡◌ {A = ℕ} 0 1 = cc in omega arith)
 some_either false n e = (refl, cc)
-
--- a search through a list, and through its places
-position-first : (p f : ℕ → Bool) (xs : List ℕ) (at : ℕ) → ((k : ℕ) → p (get_or xs k 0) ≡ f (at + k)) → position_from p at xs ≡ first_from f (length xs) at
-unfolding first_from
-position-first p f [] at h = refl
-position-first p f (x ∷ xs) at h =
-    let here : p x ≡ f at = h 0 ∙ ap f (add-zero at) in
-    let later = position-first p f xs (at + 1) (λ k. h (suc k) ∙ ap f (let z : at + suc k ≡ at + 1 + k = omega arith in z)) in
-    rw (here, later, add-one)
 
 module _ (v : ℕ) (ds : List ℕ) where
   abbrev without : ℕ → Bool
@@ -103,9 +89,6 @@ module _ (v : ℕ) (ds : List ℕ) where
     pub whole : n + length (tap_data v (drop i ds)) ≡ length (tap_data v ds)
     pub found : (missing || is_some (left i)) ≡ is_missing v ds
 
-  pub measure-begun : MeasuredForms 0 0 false
-  measure-begun = record { within = omega arith; few = omega arith; whole = zero-add (length (tap_data v ds)); found = ap is_some (first-begun without (length ds)) }
-
   module _ {i n : ℕ} {missing : Bool} (u : MeasuredForms i n missing) where
     pub measure-next : {w : ℕ} → i < length ds → w ≡ length (form_of v (get_or ds i 0)) → MeasuredForms (i + 1) (n + w) (missing || eqb w 0)
     measure-next {w} h e =
@@ -129,12 +112,9 @@ module _ (v : ℕ) (ds : List ℕ) where
   -- ---- The first without a form
 
   pub first_without-found : {r : Option ℕ} → r ≡ position_from (has_no_form v) 0 ds → r ≡ first_without v ds
-  first_without-found e = e ∙ position-first (has_no_form v) without ds 0 (λ k. ap without (sym (zero-add k)))
+  first_without-found e = e ∙ position-first (has_no_form v) without 0 ds 0 (λ k b. ap without (sym (zero-add k)))
 
   module _ {r : Option ℕ} (e : r ≡ sum_of) where
-    pub sum-none : r ≡ None → is_some (first_without v ds) ≡ true
-    sum-none q = none_either (is_missing v ds) (length (tap_data v ds)) (sym e ∙ q)
-
     pub sum-some : {n : ℕ} → r ≡ Some n → (is_missing v ds ≡ false) × (n ≡ length (tap_data v ds))
     sum-some q = some_either (is_missing v ds) (length (tap_data v ds)) (sym e ∙ q)
 
@@ -157,9 +137,6 @@ module _ (v : ℕ) (ds : List ℕ) where
     pub record DataPut (out left : List ℕ) (at : ℕ) : Type 0 where
       pub end : at + length (tap_data v left) ≡ start + length (tap_data v ds)
       pub put : Putting before start (tap_data v ds) out at (tap_data v left)
-
-    pub DataPut-begun : {left : List ℕ} → left ≡ ds → DataPut before left start
-    DataPut-begun e = record { end = ap (λ l. start + length (tap_data v l)) e; put = put-begun before start start (tap_data v ds) _ refl (ap (tap_data v) e) }
 
     module _ {out left : List ℕ} {at : ℕ} (u : DataPut out left at) (forms later : List ℕ) (s : tap_data v left ≡ forms ++ tap_data v later) where
       more : length (tap_data v left) ≡ length forms + length (tap_data v later)

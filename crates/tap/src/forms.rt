@@ -32,7 +32,8 @@ pub fn lone_cycles(b: u8) -> Cycles
     }
 }
 
-// What the long form at a place stands for.
+// What the long form at a place stands for. By `from_le_bytes`, which takes four bytes, each of the three would be named, and a 0 put beside them: no
+// plainer.
 pub fn long_cycles(bytes: &[u8], i: usize) -> Cycles
     requires { i + 4 ≤ length bytes.now }
     ensures { result.0 ≡ long_cycles bytes.now i }
@@ -49,7 +50,7 @@ pub fn byte_units(duration: Cycles) -> Units
     let Some(units) = pulse::units_of(duration) else {
         return Units(0);
     };
-    if units.0 <= MOST_BYTE_UNITS.0 {
+    if units <= MOST_BYTE_UNITS {
         return units;
     }
     Units(0)
@@ -83,7 +84,7 @@ pub fn form_of(version: u8, duration: Cycles) -> Option<Form>
         return Some(Form::Byte(units.0 as u8));
     }
     if version == 0 {
-        return (duration.0 == ZERO_CYCLES.0).then_some(Form::Byte(0));
+        return (duration == ZERO_CYCLES).then_some(Form::Byte(0));
     }
-    (duration.0 <= MOST_LONG_CYCLES.0).then_some(Form::Long(duration))
+    (duration <= MOST_LONG_CYCLES).then_some(Form::Long(duration))
 }

@@ -16,7 +16,8 @@ pub fn group_end(start: usize, n: usize) -> usize
     start + GROUP.min(n - start)
 }
 
-// The loop takes each byte, and ends at none, so that the compiler can take many at once.
+// The loop takes each byte, where `all` ends at the first 0: so the compiler can take many at once. By a fold `tape_read_tap` takes 136 bytes of
+// stack, and the interface for C states 128.
 pub fn no_zeros(bytes: &[u8]) -> bool
     ensures { result ≡ no_zeros bytes.now }
 {
@@ -27,7 +28,8 @@ pub fn no_zeros(bytes: &[u8]) -> bool
     none
 }
 
-// How many zero bytes a group has, where none stands in the three bytes after another.
+// How many zero bytes a group has, where none stands in the three bytes after another. By `windows` of four the loop would be as long, and have
+// four indices too.
 pub fn zeros_in(bytes: &[u8], start: usize, end: usize) -> Option<u8>
     requires { (start ≤ end) × (end ≤ start + 128) × (end + 4 ≤ length bytes.now) }
     ensures { IfSome result (λ zeros. Apart bytes.now start end zeros) }
@@ -37,12 +39,13 @@ pub fn zeros_in(bytes: &[u8], start: usize, end: usize) -> Option<u8>
     for i in start..end {
         let clear = (bytes[i + 1] != 0) & (bytes[i + 2] != 0) & (bytes[i + 3] != 0);
         apart &= (bytes[i] != 0) | clear;
-        count += (bytes[i] == 0) as u8;
+        count += u8::from(bytes[i] == 0);
     }
     apart.then_some(count)
 }
 
-// Puts what a function makes of each element, from a place on.
+// Puts what a function makes of each element, from a place on. By `iter_mut` and `zip` the proof did not close: an invariant of that loop has no
+// name for the values put.
 pub fn put_mapped<T: Copy, U: Copy, F: Fn(T) -> U>(xs: &[T], out: &mut [U], at: usize, f: F)
     requires room { at + length xs.now ≤ length out.old }
     requires calls { F.IsAlwaysCallable f }

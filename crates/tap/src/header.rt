@@ -48,7 +48,7 @@ fn wrong_letters(file: &[u8]) -> bool
     !check::same(&file[..VERSION_AT], &header[..VERSION_AT])
 }
 
-// Whether a reserved byte is not zero, or the number of data bytes is wrong.
+// Whether a reserved byte is not zero, or the number of data bytes is wrong. From `u32` to `usize` it is `as`: there is no From.
 fn wrong_count(file: &[u8]) -> bool
     requires { 20 ≤ length file.now }
     ensures { result ≡ wrong_count file.now }
@@ -56,7 +56,12 @@ fn wrong_count(file: &[u8]) -> bool
     if !check::same(&file[RESERVED_AT..COUNT_AT], &[0u8; COUNT_AT - RESERVED_AT]) {
         return true;
     }
-    let count = lists::from_low(&file[COUNT_AT..TAP_HEADER_BYTES]);
+    let count = u32::from_le_bytes([
+        file[COUNT_AT],
+        file[COUNT_AT + 1],
+        file[COUNT_AT + 2],
+        file[COUNT_AT + 3],
+    ]);
     count as usize != file.len() - TAP_HEADER_BYTES
 }
 

@@ -25,6 +25,7 @@ pub const TAP_HEADER_BYTES: usize = 20;
 // A version is 0 or 1. An enum would be no plainer: the file and the definitions have a number.
 const LAST_VERSION: u8 = 1;
 
+// How many durations are written at the most. Document 01 has this limit and one for the report: they are two, of one size.
 const MOST_DURATIONS: usize = 1_048_576;
 
 // What an accepted TAP file answers: its version, and the number of durations put.

@@ -1,5 +1,8 @@
 // Reading the data. The durations are counted first, so that nothing is put where a form is cut short or there is no room; then they are
-// filled in.
+// filled in. Counting and filling have loops of their own: counting refuses, and takes a group of long forms by its zero bytes; filling puts, and
+// cannot refuse. One walk for both would be longer than its two loops: a trait, an implementor for each, and a Result where filling has none.
+// The data and a place go into four functions: the place is another for each group, so a struct of both would be made anew each time, and say no
+// more.
 ghost use Rattle.std.specs.Prelude.{◌+◌, ◌≤◌, ◌<◌, ◌≡◌, length};
 ghost use Rattle.std.proofs.lemmas.List.Edits.{sets};
 ghost use Rattle.refusal.specs.Outcome.{accepted, mapped, puts, outcome_of};
@@ -63,7 +66,7 @@ fn count_group(bytes: &[u8], start: FormPlace) -> Result<FormPlace, Refusal>
             let place = form_end(bytes, end);
             return Ok(FormPlace {
                 place,
-                count: start.count + (place - start.place) - (LONG_BYTES - 1) * zeros as usize,
+                count: start.count + (place - start.place) - (LONG_BYTES - 1) * usize::from(zeros),
             });
         }
     }

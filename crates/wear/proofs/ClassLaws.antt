@@ -50,9 +50,6 @@ pub record Sorting (t : Thresholds) (strip : List ℕ) (shorts mediums longs i :
   pub medium : mediums + count_of Medium (drop i (classes t strip)) ≡ count_of Medium (classes t strip)
   pub long : longs + count_of Long (drop i (classes t strip)) ≡ count_of Long (classes t strip)
 
-pub sorting-begun : (t : Thresholds) (strip : List ℕ) → Sorting t strip 0 0 0 0
-sorting-begun t strip = record { few = omega arith; short = omega arith; medium = omega arith; long = omega arith }
-
 module _ (t : Thresholds) (strip : List ℕ) (i : ℕ) (h : i < length strip) where
   count_next : (c : Class) (n : ℕ) {b : Bool} → b ≡ same (class_of t (get_or strip i 0)) c → n + count_of c (drop i (classes t strip)) ≡ count_of c (classes t strip)
       → n + bool_byte b + count_of c (drop (i + 1) (classes t strip)) ≡ count_of c (classes t strip)

@@ -11,7 +11,7 @@ use Rattle.refusal.specs.Outcome.{Outcome, refused, accepted, refused_with}
 use Rattle.pulse.specs.declared.Class.{Class}
 use Rattle.block.specs.declared.ByCause.{ByCause}
 use Rattle.block.specs.declared.Tally.{Tally}
-use Rattle.block.specs.Looking.{for_cause, no_bad}
+use Rattle.block.specs.Looking.{for_cause, no_bad, no_tally}
 use Rattle.block.proofs.LookingLaws.{for-each, for-none, for-most, each_same}
 use Rattle.wear.specs.declared.Spot.{Spot}
 use Rattle.wear.specs.Walk.{Block, step_from, then_blocks, walk_for, blocks_from, blocks, beginning}
@@ -63,7 +63,7 @@ pub record Walking (cs : List Class) (sum : Tally) (at : Spot) : Type 0 where
 none-bad : (cause : ℕ) → for_cause cause no_bad ≡ 0
 none-bad cause = let z = for-most (λ _. 0) 0 (λ c. omega arith) cause in omega arith
 
-pub walking-begun : (cs : List Class) {bad : ByCause} → bad ≡ no_bad → Walking cs (record { one = 0; two = 0; lost = 0; bad = bad }) beginning
+pub walking-begun : (cs : List Class) {sum : Tally} → sum ≡ no_tally → Walking cs sum beginning
 walking-begun cs e = rw e (record { ones = omega arith; twos = omega arith; losts = omega arith; bads = λ cause. omega (arith, none-bad cause) })
 
 -- the number for a cause of bad bytes that were added

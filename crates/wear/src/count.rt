@@ -11,10 +11,10 @@ use pulse::{Cycles, Thresholds};
 // The pulses of each class.
 #[derive(Clone, Copy)]
 pub struct Pulses {
-    pub shorts: usize,
-    pub mediums: usize,
-    pub longs: usize,
-    pub noises: usize,
+    pub shorts: u64,
+    pub mediums: u64,
+    pub longs: u64,
+    pub noises: u64,
 }
 
 // Counts the pulses of each class, in one pass.
@@ -28,18 +28,17 @@ pub fn count_classes(strip: &[u32]) -> Pulses
     let mut longs: u32 = 0;
     for pulse in strip {
         let pulse = Cycles(*pulse);
-        shorts += pulse::is_short(t, pulse) as u32;
-        mediums += pulse::is_medium(t, pulse) as u32;
-        longs += pulse::is_long(t, pulse) as u32;
+        shorts += u32::from(pulse::is_short(t, pulse));
+        mediums += u32::from(pulse::is_medium(t, pulse));
+        longs += u32::from(pulse::is_long(t, pulse));
     }
-    let shorts = shorts as usize;
-    let mediums = mediums as usize;
-    let longs = longs as usize;
+    // In 32 bits, so that the compiler takes many pulses at once. By `as`, since usize has no From into a number of bits.
+    let noises = strip.len() as u32 - shorts - mediums - longs;
     Pulses {
-        shorts,
-        mediums,
-        longs,
-        noises: strip.len() - shorts - mediums - longs,
+        shorts: u64::from(shorts),
+        mediums: u64::from(mediums),
+        longs: u64::from(longs),
+        noises: u64::from(noises),
     }
 }
 
@@ -48,12 +47,7 @@ pub fn count_places(strip: &[u32]) -> Tally
     requires { length strip.now ≤ 1048576 }
     ensures { result ≡ places_of (blocks (classes fixed strip.now)) }
 {
-    let mut sum = Tally {
-        one: 0,
-        two: 0,
-        lost: 0,
-        bad: ByCause::none(),
-    };
+    let mut sum = Tally::default();
     let mut at = Spot {
         from: 0,
         trial: Trial::Header,

@@ -90,6 +90,7 @@ pub struct Totals {
 
 const MOST_STRIPS: u64 = 1000;
 
+// The report's own limit, which is as large as that of a TAP file's durations.
 const MOST_PULSES: usize = 1_048_576;
 
 const MOST_TOTAL: u64 = 1_000_000_000_000;
@@ -108,17 +109,17 @@ pub fn report(totals: Totals, strip: &[u32]) -> Result<Totals, Refusal>
 }
 
 impl Totals {
-    // The totals with one strip more, its pulses, its places and its bad bytes.
+    // The totals with one strip more, its pulses, its places and its bad bytes. By `as`: no From goes from usize to 64 bits.
     fn plus(self, pulses: Pulses, places: Tally) -> Totals
         requires { SumsFit self pulses places }
         ensures { result ≡ sums self pulses places }
     {
         Totals {
             strips: self.strips + 1,
-            shorts: self.shorts + pulses.shorts as u64,
-            mediums: self.mediums + pulses.mediums as u64,
-            longs: self.longs + pulses.longs as u64,
-            noises: self.noises + pulses.noises as u64,
+            shorts: self.shorts + pulses.shorts,
+            mediums: self.mediums + pulses.mediums,
+            longs: self.longs + pulses.longs,
+            noises: self.noises + pulses.noises,
             one: self.one + places.one as u64,
             two: self.two + places.two as u64,
             lost: self.lost + places.lost as u64,
@@ -139,11 +140,7 @@ impl Totals {
             self.two,
             self.lost,
         ];
-        let bad = self.bad;
-        let causes: [u64; CAUSES] = [
-            bad.marker, bad.bit0, bad.bit1, bad.bit2, bad.bit3, bad.bit4, bad.bit5, bad.bit6,
-            bad.bit7, bad.parity, bad.ones,
-        ];
+        let causes = <[u64; CAUSES]>::from(self.bad);
         (MOST_STRIPS <= self.strips) | any_above(&counts) | any_above(&causes)
     }
 }

@@ -1,7 +1,7 @@
-// One step of a walk, on the slice and the numbers. Its parts take them one by one: each needs another fact of them, and a struct with `entry` in
-// every clause is no plainer.
+// One step of a walk, on the slice and the numbers. Its parts take them one by one: a struct with `entry` in every clause is no plainer. That a
+// header's copies lie on the strip is a clause of three: the type that knows it is `block`'s own.
 ghost use Rattle.std.specs.Prelude.{◌≤◌, ◌<◌, ◌≡◌, false, length};
-ghost use Rattle.refusal.specs.Outcome.{mapped, of_block, outcome_of};
+ghost use Rattle.refusal.specs.Outcome.{mapped, outcome_of};
 ghost use Rattle.pulse.specs.Pulse.{fixed, classes};
 ghost use Rattle.start.specs.Copies.{copy_two, end_of};
 ghost use Rattle.block.specs.Block.{wrong_size};
@@ -12,12 +12,7 @@ ghost use Rattle.wear.specs.Walk.{size_of, block_of, after_block, next_spot, try
 use super::{Spot, Trial, Tried};
 use block::Extent;
 use header::{Fields, HEADER_BYTES};
-use refusal::{Reason, Refusal};
-
-// The numbers of the blocks in a refusal, as C gets them.
-const HEADER_BLOCK: u32 = 0;
-
-const DATA_BLOCK: u32 = 1;
+use refusal::{DATA_BLOCK, HEADER_BLOCK, Reason, Refusal};
 
 // The first start at or after the place, and the block there.
 pub fn step_at(strip: &[u32], at: Spot) -> Result<Tried, Refusal>

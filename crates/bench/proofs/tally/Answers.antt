@@ -1,32 +1,26 @@
--- `bench::tally` meets its contract. The loop's invariant: the tally so far, with the bytes that are left, gives the whole.
-use Prim.Native.Nat.{◌*◌, ◌/◌}
-use native.Mathlib.Omega.{arith}
+-- `bench::tally` meets its contract. The loop's invariant: the tally so far, with the frames that are left, gives the whole.
 use mathlib.Core.Path.{sym, ◌∙◌}
-use lib.ListN.{length, length-map}
-use Rattle.pulse.specs.Pulse.{classes}
-use Rattle.byte.proofs.ByteLaws.{read_frame-part}
-use Rattle.bench.specs.declared.BenchTally.{BenchTally}
-use Rattle.bench.proofs.TallyLaws.{tally-begun, tally-next, tally-over}
+use Prim.Native.Nat.{◌<◌}
+use lib.ListN.{length}
+use Rattle.std.specs.Slice.Iter.{chunks_exact_rest}
+use Rattle.bench.proofs.TallyLaws.{Tallied-next, Tallied-over}
 use Rattle.bench.proofs.tally.Goals as goal
-use Rattle.bench.proofs.tally.Goals.{in-Some, in_default}
 
-pub loop-i-init : goal.loop-i-init
-loop-i-init c =
-    let begun = tally-begun (classes c.args.t c.args.pulses.now) (length c.args.pulses.now / 20) (record { good = 0; xor = 0 }) in
-    (omega arith, rw length-map begun)
+pub loop-frame-preserved-in-Some-read_frame : goal.loop-frame-preserved-in-Some-read_frame
+loop-frame-preserved-in-Some-read_frame c =
+    let steps = c.in-Some.ensures.steps in (
+      steps.0 ∙ c.loop-frame.invariant.0,
+      Tallied-next c.args.t c.args.pulses.now c.loop-frame.invariant.1 c.in-Some.frame.now steps.1.0 (steps.1.1 ∙ c.loop-frame.invariant.0) (sym c.in-Some-read_frame.is ∙ c.read_frame.ensures),
+    )
 
-pub loop-i-preserved : goal.loop-i-preserved
-loop-i-preserved c =
-    let tally : BenchTally = record { good = c.loop-i.good; xor = c.loop-i.xor } in
-    let frame = read_frame-part c.args.t c.args.pulses.now (20 * c.loop-i.i) (omega arith) in
-    let next = tally-next (classes c.args.t c.args.pulses.now) (length c.args.pulses.now / 20) tally c.loop-i.i (omega arith) (c.read_frame.ensures ∙ frame) in
-    let whole = next ∙ c.loop-i.invariant.1 in
-    elim c.match-read_frame.branch [
-      | in-Some w ↦ rw (w.good-is, w.xor-is) (omega arith, rw w.in-Some.is at whole)
-      | in_default w ↦ rw (w.good-is, w.xor-is) (omega arith, rw w.in_default.is at whole)
-    ]
+pub loop-frame-preserved : goal.loop-frame-preserved
+loop-frame-preserved c =
+    let steps = c.in-Some.ensures.steps in (
+      steps.0 ∙ c.loop-frame.invariant.0,
+      Tallied-next c.args.t c.args.pulses.now c.loop-frame.invariant.1 c.in-Some.frame.now steps.1.0 (steps.1.1 ∙ c.loop-frame.invariant.0) (sym c.in_default.is ∙ c.read_frame.ensures),
+    )
 
 pub returns : goal.returns
 returns c =
-    let tally : BenchTally = record { good = c.loop-i.good; xor = c.loop-i.xor } in
-    sym (tally-over (classes c.args.t c.args.pulses.now) (length c.args.pulses.now / 20) tally c.loop-i.i (omega arith)) ∙ c.loop-i.invariant.1
+    let over : length (chunks_exact_rest c.loop-frame.frame-iterator) < 20 = rw c.loop-frame.invariant.0 at c.in-None.ensures.steps.1.0 in
+    sym (Tallied-over c.args.t c.args.pulses.now c.loop-frame.invariant.1 over)

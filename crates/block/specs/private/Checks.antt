@@ -1,5 +1,5 @@
 -- What the parts of rules 3 to 5 come to, and what the reader keeps of the places whose value is copy two's.
-use Rattle.std.specs.Prelude.{ℕ, ◌+◌, ◌≤◌, ◌<◌, ◌≡◌, Bool, false, cond, List, eqb, Option, None, Some, Result}
+use Rattle.std.specs.Prelude.{ℕ, ◌+◌, ◌≤◌, ◌<◌, ◌≡◌, Bool, false, cond, List, None, Result}
 use Rattle.lists.specs.Places.{first_from}
 use Rattle.refusal.specs.declared.Reason.TheVariants.{WrongCountdown, LostByte, WrongChecksum}
 use Rattle.refusal.specs.declared.Refusal.{Refusal}
@@ -8,11 +8,6 @@ use Rattle.pulse.specs.declared.Class.{Class}
 use Rattle.block.specs.Reading.{is_miscounted, is_lost, causes_at, sum_holds, place_at}
 use Rattle.block.specs.Looking.{is_from_two, places_from}
 use Rattle.block.specs.private.Flags.{flag_at, group_of}
-
--- a frame has this value
-abbrev pub has_value : ℕ → Option ℕ → Bool
-has_value v (Some w) = eqb w v
-has_value v None = false
 
 -- ---- What is given, where a part of the rules holds
 

@@ -13,9 +13,9 @@ returns-then-strip-at-lt-BYTE_PULSES c =
 
 pub returns-in-Some : goal.returns-in-Some
 returns-in-Some c =
-    value_there c.args.t c.args.strip.now c.args.at _ (omega arith) (sym c.in-Some.is ∙ c.read_frame.ensures)
+    value_there c.args.t c.args.strip.now c.args.at _ (omega arith) (sym c.in-Some.is ∙ c.lone_frame.ensures)
 
 pub returns-in-None : goal.returns-in-None
 returns-in-None c =
     ap Bad c.first_wrong-in-None.ensures
-    ∙ none-there c.args.t c.args.strip.now c.args.at (omega arith) (sym c.in-None.is ∙ c.read_frame.ensures)
+    ∙ none-there c.args.t c.args.strip.now c.args.at (omega arith) (sym c.in-None.is ∙ c.lone_frame.ensures)

@@ -4,4 +4,4 @@ use Rattle.byte.proofs.code_of.Goals as goal
 
 pub returns : goal.returns
 unfolding code_of
-returns c = rw c.parity_bit.ensures
+returns c = rw (c.from.ensures, c.from-2.ensures, c.parity_bit.ensures)

@@ -1,7 +1,5 @@
 -- `byte::write_bytes` meets its contract. The invariant: the bytes left, put after those that are there, give them all.
-use Rattle.std.proofs.Common.{refl, arith, rules}
-use Rattle.byte.specs.Byte.{bits, coded}
-use Rattle.byte.specs.private.Quarters.{quarters_from}
+use Rattle.std.proofs.Common.{arith}
 use Rattle.byte.proofs.Stores.{BytesPut-next, write_bytes-whole, write_bytes-no_room}
 use Rattle.byte.proofs.write_bytes.Goals as goal
 

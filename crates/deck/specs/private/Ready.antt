@@ -1,8 +1,9 @@
--- What one pulse asks for, and what the functions for one phase leave.
-use Rattle.std.specs.Prelude.{ℕ, suc, ◌+◌, ◌-◌, ◌*◌, ◌<◌, ◌≤◌, ◌≡◌, Bool, true, false, cond, not, ◌&&◌, ◌||◌, eqb, leb, ltb, Option, None, Some}
+-- What a call hands back where it takes nothing, what settling asks for, and the two halves of a pulse: it is heard, and what is whole is settled.
+use Rattle.std.specs.Prelude.{ℕ, suc, ◌+◌, ◌-◌, ◌*◌, ◌<◌, ◌≤◌, ◌≡◌, List, Bool, true, false, cond, not, ◌&&◌, ◌||◌, eqb, leb, ltb, Option, None, Some}
 use Rattle.pulse.specs.declared.Class.{Class}
 use Rattle.byte.specs.declared.ByteRead.{ByteRead}
 use Rattle.byte.specs.declared.ByteRead.TheVariants.{Good}
+use Rattle.deck.specs.declared.Checks.{Checks}
 use Rattle.deck.specs.declared.Deck.{Deck}
 use Rattle.deck.specs.declared.state.Phase as own
 use Rattle.deck.specs.Frame.{fresh, take_pulse}
@@ -10,7 +11,7 @@ use Rattle.deck.specs.Lead.{seek}
 use Rattle.deck.specs.Work.{fits, cause_byte, put_byte, get_byte}
 use Rattle.deck.specs.Judge.{no_checks}
 use Rattle.deck.specs.Step.{Phase, Seeking, InOne, Between, InTwo, Told, Standing, standing, placed, judged}
-use Rattle.deck.specs.Calls.{phase_of}
+use Rattle.deck.specs.Calls.{phase_of, is_closed, deck_refusing}
 
 -- the phase that a value of the code's own enum stands for
 abbrev pub doing : own.Phase → Phase
@@ -20,9 +21,12 @@ doing (own.Phase.Between start heard) = Between start heard
 doing (own.Phase.InTwo start place heard frame checks) = InTwo start place heard frame checks
 doing (own.Phase.Told start answer checks) = Told start answer checks
 
--- the number with which a call with so many pulses is refused, before an answer
-unfoldable pub refusal_by : Deck → (count work out : ℕ) → Option ℕ
-refusal_by d count work out = cond (ltb 4294967295 (d.taken + count)) (Some 1) (cond (not (fits d.n work out)) (Some 2) None)
+-- the deck that a call with so many pulses hands back where it takes nothing: a closed one as it is, or one that says why the call is refused
+unfoldable pub turned_away : Deck → (count work out : ℕ) → Option Deck
+turned_away d count work out =
+    cond (is_closed d) (Some d)
+    (cond (ltb 4294967295 (d.taken + count)) (Some (deck_refusing 1 d))
+    (cond (not (fits d.n work out)) (Some (deck_refusing 2 d)) None))
 
 -- a block of n bytes, with the buffers' room for it
 pub record Roomy (n work out : ℕ) : Type 0 where
@@ -59,13 +63,16 @@ whole_in (Between start heard) = eqb heard 61
 whole_in (InTwo start place heard frame checks) = eqb heard 20
 whole_in (Told start answer checks) = false
 
+-- byte place i of copy two is `two`, with copy one's byte in the working buffer
+abbrev pub judged_here : (n k start i : ℕ) (two : ByteRead) → Checks → (work out : List ℕ) → Standing
+judged_here n k start i two checks work out = judged n k start i (get_byte work i) two checks work out
+
 -- it is settled, a byte being `read`
 abbrev pub settled : (n : ℕ) → Standing → (read : ByteRead) → Standing
 settled n (standing k (Seeking matched) work out) read = standing k (InOne (k - 20) 1 0 fresh) (put_byte work 0 (Good 0x89)) out
 settled n (standing k (InOne start place heard frame) work out) read = placed n k start place read work out
 settled n (standing k (Between start heard) work out) read = standing k (InTwo start 0 0 fresh (no_checks n)) work out
-settled n (standing k (InTwo start place heard frame checks) work out) read =
-    judged n k start place (get_byte work place) read checks work out
+settled n (standing k (InTwo start place heard frame checks) work out) read = judged_here n k start place read checks work out
 settled n (standing k (Told start answer checks) work out) read = standing k (Told start answer checks) work out
 
 -- no pulse of a frame is heard yet

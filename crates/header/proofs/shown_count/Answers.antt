@@ -1,18 +1,11 @@
--- `header::shown_count` meets its contract. The invariant: as many are shown of the first i bytes as of all sixteen.
-use mathlib.Core.Path.{◌≡◌, ◌∙◌}
-use native.Mathlib.Omega.{arith}
-use Rattle.header.specs.Header.{shown_count}
-use Rattle.header.proofs.Unpacking.{shown-shorter, shown-here}
+-- `header::shown_count` meets its contract: the position, from the end on, of the first byte that is no space.
+use Rattle.std.proofs.Common.{rules}
+use Rattle.std.proofs.lemmas.Iterator.Adapters.{YieldsList-from_rev_slice}
+use Rattle.std.proofs.lemmas.Iterator.Search.{position_from_yields_List}
+use Rattle.header.proofs.Unpacking.{no_space, most, shown-spaces}
 use Rattle.header.proofs.shown_count.Goals as goal
 
-pub returns-then-header-i-ne-SPACE : goal.returns-then-header-i-ne-SPACE
-returns-then-header-i-ne-SPACE c = shown-here c.args.header.now c.loop-i.i c.loop-i-test.true c.if-header-i-ne-SPACE.true ∙ c.loop-i.invariant
-
-pub loop-i-preserved : goal.loop-i-preserved
-loop-i-preserved c = shown-shorter c.args.header.now c.loop-i.i c.loop-i-test.true c.if-header-i-ne-SPACE.false ∙ c.loop-i.invariant
-
 pub returns : goal.returns
-unfolding shown_count
 returns c =
-    let z : c.loop-i.i ≡ 0 = omega arith in
-    rw z at c.loop-i.invariant
+    let found = position_from_yields_List no_space _ _ c.position-spaces.result c.position-spaces.ensures.ran (YieldsList-from_rev_slice (most c.args.header.now c.requires) cc) (λ x b q k. search rules) in
+    shown-spaces c.args.header.now c.requires found c.unwrap_or.ensures

@@ -1,8 +1,9 @@
 -- `pulse::is_long` meets its contract, whatever the four tests of `class_of` give.
-use Rattle.lists.proofs.BoolLaws.{leb-not}
+use Rattle.lists.proofs.BoolLaws.{leb-not, le-cmp, lt-cmp}
 use Rattle.pulse.proofs.PulseLaws.{class-tests}
 use Rattle.pulse.proofs.is_long.Goals as goal
 
 pub returns : goal.returns
 returns c =
-    rw (leb-not c.args.t.short.0 c.args.pulse.0, leb-not c.args.t.medium.0 c.args.pulse.0, leb-not c.args.t.long.0 c.args.pulse.0) (class-tests c.args.t c.args.pulse.0).long
+    rw (c.le.ensures, c.le-2.ensures, c.le-3.ensures, c.lt.ensures, le-cmp c.args.t.short.0 c.args.pulse.0, le-cmp c.args.t.medium.0 c.args.pulse.0, le-cmp c.args.t.long.0 c.args.pulse.0, lt-cmp c.args.pulse.0 c.args.t.noise.0)
+    (rw (leb-not c.args.t.short.0 c.args.pulse.0, leb-not c.args.t.medium.0 c.args.pulse.0, leb-not c.args.t.long.0 c.args.pulse.0) (class-tests c.args.t c.args.pulse.0).long)

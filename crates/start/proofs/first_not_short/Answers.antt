@@ -1,24 +1,29 @@
--- `start::first_not_short` meets its contract. The invariant: the search from i on finds what the whole search finds.
-use native.Mathlib.Omega.{arith}
-use mathlib.Core.Path.{sym, ap, ◌∙◌}
-use mathlib.Core.Bool.{not}
-use lib.ListN.{length}
-use Rattle.lists.proofs.LoopLaws.{first-here, first-passed, first-over}
+-- `start::first_not_short` meets its contract: the position in the rest of the strip.
+use Rattle.std.proofs.Common.{rules, ◌≡◌, ◌∙◌, ◌≤◌, drop, length}
+use mathlib.Core.Path.{sym}
+use Rattle.std.proofs.lemmas.Iterator.{YieldsList-from_slice}
+use Rattle.std.proofs.lemmas.Iterator.Adapters.{position_from-zero}
+use Rattle.std.proofs.lemmas.Iterator.Search.{position_from_yields_List}
+use Rattle.lists.proofs.LoopLaws.{first-over}
 use Rattle.pulse.specs.Pulse.{classes}
 use Rattle.start.specs.private.Search.{not_short}
-use Rattle.start.proofs.Searching.{not-short-at}
+use Rattle.start.proofs.Searching.{other, rest-whole, rest-none, rest-some}
 use Rattle.start.proofs.first_not_short.Goals as goal
 
-pub returns-then-not-is_short : goal.returns-then-not-is_short
-returns-then-not-is_short c =
-    let e = not-short-at c.args.t c.args.strip.now c.loop-i.i (omega arith) ∙ ap not (sym c.is_short.ensures) ∙ c.if-not-is_short.true-raw in
-    sym (first-here (not_short (classes c.args.t c.args.strip.now)) (length c.args.strip.now) c.loop-i.i (omega arith) e) ∙ c.loop-i.invariant
+pub returns-in_err-rest : goal.returns-in_err-rest
+returns-in_err-rest c =
+    let past : length c.args.strip.now ≤ c.args.at = search rules in
+    c.from_residual.ensures ∙ sym (first-over (not_short (classes c.args.t c.args.strip.now)) _ c.args.at past)
 
-pub loop-i-preserved : goal.loop-i-preserved
-loop-i-preserved c =
-    let e = not-short-at c.args.t c.args.strip.now c.loop-i.i (omega arith) ∙ ap not (sym c.is_short.ensures) ∙ c.if-not-is_short.false-raw in
-    first-passed (not_short (classes c.args.t c.args.strip.now)) (length c.args.strip.now) c.loop-i.i (omega arith) e ∙ c.loop-i.invariant
+pub returns-in_err-first : goal.returns-in_err-first
+returns-in_err-first c =
+    let found = position_from_yields_List (other c.args.t c.args.strip.now c.args.at) _ _ c.position.result c.position.ensures.ran (YieldsList-from_slice c.in_ok-rest.rest.now cc) (λ x b q k. search rules) in
+    let rest : c.in_ok-rest.rest.now ≡ drop c.args.at c.args.strip.now = rest-whole c.args.t c.args.strip.now c.args.at c.in_ok-rest.ensures.lookup.0.2 in
+    c.from_residual-in_err-first.ensures
+    ∙ rest-none c.args.t c.args.strip.now c.args.at (rw (← rest) (sym (position_from-zero (other c.args.t c.args.strip.now c.args.at) c.in_ok-rest.rest.now) ∙ sym found ∙ c.in_err-first.was))
 
 pub returns : goal.returns
 returns c =
-    sym (first-over (not_short (classes c.args.t c.args.strip.now)) (length c.args.strip.now) c.loop-i.i (omega arith)) ∙ c.loop-i.invariant
+    let found = position_from_yields_List (other c.args.t c.args.strip.now c.args.at) _ _ c.position.result c.position.ensures.ran (YieldsList-from_slice c.in_ok-rest.rest.now cc) (λ x b q k. search rules) in
+    let rest : c.in_ok-rest.rest.now ≡ drop c.args.at c.args.strip.now = rest-whole c.args.t c.args.strip.now c.args.at c.in_ok-rest.ensures.lookup.0.2 in
+    rest-some c.args.t c.args.strip.now c.args.at (rw (← rest) (sym (position_from-zero (other c.args.t c.args.strip.now c.args.at) c.in_ok-rest.rest.now) ∙ sym found ∙ c.in_ok-first.was))

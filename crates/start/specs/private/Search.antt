@@ -1,6 +1,5 @@
 -- What the private functions of the search for a start come to. No promise to a caller cites this.
-use Rattle.std.specs.Prelude.{ℕ, zero, suc, ◌+◌, Bool, cond, not, List, get_or}
-use Rattle.std.specs.Prelude.{Option, None, Some}
+use Rattle.std.specs.Prelude.{ℕ, zero, suc, ◌+◌, Bool, cond, not, List, get_or, Option, None, Some}
 use Rattle.pulse.specs.declared.Class.{Class}
 use Rattle.pulse.specs.declared.Class.TheVariants.{Short, Noise}
 use Rattle.pulse.specs.Pulse.{same}

@@ -1,4 +1,4 @@
--- Reading: the answer of the header, what the data come to, and what the loops keep.
+-- Reading: what the data come to, and what the loops keep.
 use Rattle.std.specs.Prelude.{ℕ, ◌+◌, ◌-◌, ◌*◌, ◌≤◌, ◌<◌, ◌≡◌, cond, List, eqb, length, drop, get_or, Result, MatchResult}
 use Rattle.refusal.specs.declared.Refusal.{Refusal}
 use Rattle.std.proofs.lemmas.List.Edits.{sets}

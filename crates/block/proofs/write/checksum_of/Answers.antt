@@ -1,10 +1,13 @@
--- `block::write::checksum_of` meets its contract. The invariant: the sum so far, XORed with the bytes left, is the checksum.
-use Rattle.std.proofs.Common.{arith, ◌∙◌}
-use Rattle.block.proofs.Writing.{sum-next, sum_done}
+-- `block::write::checksum_of` meets its contract: the fold over the bytes so far is their XOR.
+use mathlib.Core.Path.{◌≡◌, refl}
+use Rattle.std.proofs.Common.{rules, subst}
+use Rattle.std.proofs.lemmas.Fn.{fold_over, slice_gives, fronts}
+use Rattle.block.specs.Block.{xor_from}
+use Rattle.block.proofs.Summing.{xor-snoc}
 use Rattle.block.proofs.write.checksum_of.Goals as goal
 
-pub loop-byte-preserved : goal.loop-byte-preserved
-loop-byte-preserved c = sum-next c.loop-byte.sum c.loop-byte.byte-index c.args.payload.now c.loop-byte-test.true ∙ c.loop-byte.invariant
-
 pub returns : goal.returns
-returns c = sum_done c.loop-byte.sum c.loop-byte.byte-index c.args.payload.now (omega arith) ∙ c.loop-byte.invariant
+unfolding xor_from
+returns c =
+    subst (λ bytes. c.fold.result ≡ xor_from 0x00 bytes) c.iter.ensures.rest
+    (fold_over fronts (λ b. b.now) _ (λ bytes sum. sum ≡ xor_from 0x00 bytes) _ (λ bytes sum b next f' so_far k. rw (xor-snoc 0x00 bytes b.now, ← so_far) (search rules)) _ _ _ _ (slice_gives c.iter.result) refl c.fold.ensures.ran)

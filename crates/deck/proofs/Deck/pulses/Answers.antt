@@ -1,27 +1,20 @@
 use native.Mathlib.Omega.{arith}
-use mathlib.Core.Path.{sym, ◌∙◌}
 use lib.ListN.{length, length-map}
 use Rattle.pulse.specs.Pulse.{class_of, fixed, classes}
-use Rattle.deck.proofs.Answering.{open-inside}
+use Rattle.deck.proofs.Answering.{admitted, run-away}
 use Rattle.deck.proofs.SoundLaws.{open-closed}
 use Rattle.deck.proofs.Stepping.{fed-settles, step-heard, step-settled}
-use Rattle.deck.proofs.Going.{class-fixed, byte-fixed, take-closed, take-refused, take_steps, running-begun, running-one, running-frame, frame-fits, frame_at, one-fits, running-open, frame-settles, running-told, running-done}
+use Rattle.deck.proofs.Going.{class-fixed, byte-fixed, take_steps, running-begun, running-one, running-frame, frame-fits, frame_at, one-fits, running-open, frame-settles, running-told, running-done}
 use Rattle.deck.proofs.Deck.pulses.Goals as goal
 
-pub returns-then-is_closed : goal.returns-then-is_closed
-returns-then-is_closed c = take-closed c.args.self c.args.work.now c.args.out.now _ c.is_closed.ensures c.if-is_closed.true
-
-pub refusal-requires : goal.refusal-requires
-refusal-requires c = open-inside c.args.self (sym c.is_closed.ensures ∙ c.if-is_closed.false)
-
 pub returns-in-Some : goal.returns-in-Some
-returns-in-Some c = take-refused c.args.self c.args.work.now c.args.out.now (sym c.is_closed.ensures ∙ c.if-is_closed.false) (classes fixed c.args.pulses.now) (length c.args.pulses.now) (length-map c.args.pulses.now (class_of fixed)) c.refusal.ensures c.in-Some.is
+returns-in-Some c = run-away c.args.self c.args.work.now c.args.out.now (classes fixed c.args.pulses.now) (length c.args.pulses.now) (length-map c.args.pulses.now (class_of fixed)) c.turned_away.ensures c.in-Some.is
 
 pub loop-i-init : goal.loop-i-init
-loop-i-init c = running-begun c.args.pulses.now c.args.self _ _ (sym c.is_closed.ensures ∙ c.if-is_closed.false) c.refusal.ensures c.in_default.is
+loop-i-init c = running-begun c.args.pulses.now c.args.self _ _ (admitted c.args.self _ _ _ c.turned_away.ensures c.in_default.is)
 
 pub returns-then-self-eq-ANSWERED : goal.returns-then-self-eq-ANSWERED
-returns-then-self-eq-ANSWERED c = take_steps c.args.self c.args.work.now c.args.out.now (sym c.is_closed.ensures ∙ c.if-is_closed.false) (classes fixed c.args.pulses.now) (length c.args.pulses.now) (length-map c.args.pulses.now (class_of fixed)) c.refusal.ensures c.in_default.is (running-told _ _ _ _ _ _ _ _ c.loop-i.invariant c.if-self-eq-ANSWERED.true)
+returns-then-self-eq-ANSWERED c = take_steps c.args.self c.args.work.now c.args.out.now (classes fixed c.args.pulses.now) (length c.args.pulses.now) (length-map c.args.pulses.now (class_of fixed)) (admitted c.args.self _ _ _ c.turned_away.ensures c.in_default.is) (running-told _ _ _ _ _ _ _ _ c.loop-i.invariant c.if-self-eq-ANSWERED.true)
 
 pub settle-self-requires : goal.settle-self-requires
 settle-self-requires c = frame-settles _ _ _ _ _ _ _ _ c.loop-i.invariant c.if-self-eq-ANSWERED.false (frame_at _ _ _ _ _ _ _ _ c.loop-i.invariant c.at_frame.ensures c.if-at_frame-pulses.true) (byte-fixed c.args.pulses.now c.loop-i.i c.fixed.ensures c.byte_at.ensures)
@@ -42,4 +35,4 @@ pub loop-i-preserved : goal.loop-i-preserved
 loop-i-preserved c = running-one _ _ _ _ _ _ _ _ c.loop-i.invariant c.class_of.result c.loop-i-test.true (class-fixed _ c.fixed-in-loop-i.ensures c.class_of.ensures) (step-heard c.loop-i.self (running-open _ _ _ _ _ _ _ _ c.loop-i.invariant c.if-self-eq-ANSWERED.false).early c.class_of.result _ _ c.feed-self.ensures c.is_whole.ensures c.if-is_whole.false)
 
 pub returns : goal.returns
-returns c = take_steps c.args.self c.args.work.now c.args.out.now (sym c.is_closed.ensures ∙ c.if-is_closed.false) (classes fixed c.args.pulses.now) (length c.args.pulses.now) (length-map c.args.pulses.now (class_of fixed)) c.refusal.ensures c.in_default.is (running-done _ _ _ _ _ _ _ _ c.loop-i.invariant (λ z. omega (arith, c.loop-i-test)))
+returns c = take_steps c.args.self c.args.work.now c.args.out.now (classes fixed c.args.pulses.now) (length c.args.pulses.now) (length-map c.args.pulses.now (class_of fixed)) (admitted c.args.self _ _ _ c.turned_away.ensures c.in_default.is) (running-done _ _ _ _ _ _ _ _ c.loop-i.invariant (λ z. omega (arith, c.loop-i-test)))

@@ -12,7 +12,7 @@ pub returns-in-4 : goal.returns-in-4
 returns-in-4 c = outcome-cut c.args.n c.args.start c.args.checks c.args.answer c.in-4.is c.at.ensures
 
 pub returns-in-5 : goal.returns-in-5
-returns-in-5 c = outcome-countdown c.args.n c.args.start c.args.checks c.args.answer c.in-5.is c.at-in-5.ensures
+returns-in-5 c = outcome-countdown c.args.n c.args.start c.args.checks c.args.answer c.in-5.is (rw c.from.ensures at c.at-in-5.ensures)
 
 pub returns-in-6 : goal.returns-in-6
 returns-in-6 c = outcome-lost c.args.n c.args.start c.args.checks c.args.answer c.in-6.is c.at-in-6.ensures

@@ -5,4 +5,4 @@ pub loop-i-preserved : goal.loop-i-preserved
 loop-i-preserved c = fill-next c.args.out.now c.args.work.now c.args.n c.loop-i.invariant c.loop-i-test.true
 
 pub returns : goal.returns
-returns c = fill_done c.args.out.now c.args.work.now c.args.n c.loop-i.invariant c.loop-i-test.false c.requires.2
+returns c = fill_done c.args.out.now c.args.work.now c.args.n c.loop-i.invariant c.loop-i-test.false c.requires.1

@@ -8,7 +8,8 @@ use Rattle.tap.proofs.groups.zeros_in.Goals as goal
 
 pub loop-i-preserved : goal.loop-i-preserved
 loop-i-preserved c =
-    let flag = flag-le (eqb (get_or c.args.bytes.now c.loop-i.i 0) 0) in (
+    let flag = flag-le (eqb (get_or c.args.bytes.now c.loop-i.i 0) 0) in
+    rw c.from-count.ensures (
       omega arith,
       λ t.
           let both = and-true c.loop-i.apart _ t in

@@ -9,4 +9,4 @@ returns-then-not-same c =
 
 pub returns : goal.returns
 returns c =
-    wrong_count-number c.args.file.now (omega arith) c.same.ensures c.if-not-same.false c.from_low-count.ensures
+    wrong_count-number c.args.file.now (omega arith) c.same.ensures c.if-not-same.false c.from_le_bytes-count.ensures

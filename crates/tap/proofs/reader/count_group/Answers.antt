@@ -14,4 +14,4 @@ pub returns-in-Some : goal.returns-in-Some
 returns-in-Some c =
     let whole = c.group_end-end.ensures.3 (omega arith) in
     let counted = apart-counted c.args.bytes.now c.args.start.place c.in-Some.ensures (omega arith) c.requires.counted c.form_end-place.ensures in
-    (counted.0, counted.2)
+    rw c.from.ensures (counted.0, counted.2)

@@ -1,15 +1,14 @@
--- `tap::writer::all_bytes` meets its contract. The invariant: with the durations tested, the rest gives the answer.
-use mathlib.Core.Path.{sym, ◌∙◌}
-use lib.ListN.{length-map}
-use Rattle.tap.specs.private.Forms.{byte_units}
-use Rattle.tap.proofs.GroupLaws.{test-next, test-done, get_or-mapped}
+-- `tap::writer::all_bytes` meets its contract. The invariant: what is said of the durations before.
+use mathlib.Core.Path.{refl}
+use Rattle.std.proofs.lemmas.List.{take_more}
+use Rattle.tap.specs.private.Forms.{no_zeros}
+use Rattle.tap.proofs.GroupLaws.{no_zeros-more}
 use Rattle.tap.proofs.writer.all_bytes.Goals as goal
+
+pub loop-duration-init : goal.loop-duration-init
+unfolding no_zeros
+loop-duration-init c = refl
 
 pub loop-duration-preserved : goal.loop-duration-preserved
 loop-duration-preserved c =
-    let units = c.byte_units.ensures.value ∙ sym (get_or-mapped byte_units c.args.durations.now c.loop-duration.duration-index c.loop-duration-test.true) in
-    let next = test-next c.loop-duration.invariant (rw length-map c.loop-duration-test.true) in
-    rw units next
-
-pub returns : goal.returns
-returns c = test-done c.loop-duration.invariant (rw length-map c.loop-duration-test.false)
+    rw (take_more c.args.durations.now c.loop-duration.duration-index 0 c.loop-duration-test.true, no_zeros-more, ← c.loop-duration.invariant, c.byte_units.ensures.value)

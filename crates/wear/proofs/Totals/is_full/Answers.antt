@@ -3,4 +3,4 @@ use Rattle.wear.proofs.Adding.{full-any}
 use Rattle.wear.proofs.Totals.is_full.Goals as goal
 
 pub returns : goal.returns
-returns c = full-any c.args.self.now c.any_above.ensures c.any_above-2.ensures
+returns c = full-any c.args.self.now c.any_above.ensures (rw (← c.from-causes.ensures) c.any_above-2.ensures)

@@ -1,4 +1,5 @@
 -- `wear::count::count_places` meets its contract. The invariant: what was counted, with the places of the walk that is left, is all.
+use Rattle.std.proofs.Common.{rules}
 use mathlib.Core.Path.{sym}
 use lib.ListN.{length-map}
 use Rattle.pulse.specs.Pulse.{class_of, fixed}
@@ -7,7 +8,7 @@ use Rattle.wear.proofs.Walking.{walking-begun, walking-next, walking-fits, walki
 use Rattle.wear.proofs.count.count_places.Goals as goal
 
 pub loop-b-init : goal.loop-b-init
-loop-b-init c = walking-begun _ c.none.ensures
+loop-b-init c = walking-begun _ (search rules)
 
 pub returns : goal.returns
 returns c = walking-done c.loop-b.invariant c.in_default.field-0 c.in_default.ensures

@@ -41,5 +41,5 @@ pub returns : goal.returns
 returns c =
     record {
       check = ap outcome_of c.and.ensures ∙ counted-check c.loop-i.invariant.0 (omega arith) _ c.check_sum.ensures;
-      tally = counted-tally c.loop-i.invariant.0 (omega arith) (c.by_cause.ensures ∙ told-all _ _ _ c.loop-i.invariant.1 _ (counted-last c.loop-i.invariant.0 (omega arith)));
+      tally = counted-tally c.loop-i.invariant.0 (omega arith) (c.from.ensures ∙ told-all _ _ _ c.loop-i.invariant.1 _ (counted-last c.loop-i.invariant.0 (omega arith)));
     }

@@ -1,6 +1,7 @@
 -- `byte::decoder::Bounds::decode` meets its contract.
 use Rattle.std.proofs.Common.{◌≡◌, length, ◌∙◌, arith}
 use lib.ListN.{length-map}
+use Rattle.lists.proofs.BoolLaws.{le-cmp}
 use Rattle.byte.specs.private.Frame.{class_in}
 use Rattle.byte.proofs.FrameLaws.{framing-begun, framing-next, frame-other, frame-read}
 use Rattle.byte.proofs.decoder.Bounds.decode.Goals as goal
@@ -16,7 +17,8 @@ loop-i-init c = framing-begun _ _
 
 pub loop-i-preserved : goal.loop-i-preserved
 loop-i-preserved c =
-    framing-next c.args.self c.args.frame.now (omega arith) c.loop-i.invariant c.distance-far.ensures
+    rw (c.from.ensures, c.le-out.ensures, c.le.ensures, le-cmp c.args.self.long.0 c.distance-far.result.0, le-cmp c.args.self.medium.0 c.distance-far.result.0)
+    (framing-next c.args.self c.args.frame.now (omega arith) c.loop-i.invariant c.distance-far.ensures)
 
 pub returns : goal.returns
 returns c =
