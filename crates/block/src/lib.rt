@@ -162,7 +162,7 @@ impl PlaceRead {
         }
     }
 
-    // The value. Where the place is lost it is 0, as the definition has it, so that the sum over all places can be taken.
+    // The value. Where the place is lost it is 0, as the definition has it.
     pub fn value(self) -> u8
         ensures { result ≡ place_value (place_read self) }
     {

@@ -1,11 +1,11 @@
 // Looking at a block whose start is known: rules 3 to 5 without an output. Every place is counted, also after one that is lost.
-ghost use Rattle.std.specs.Prelude.{◌+◌, ◌^◌, ◌≤◌, ◌<◌, ◌≡◌, get_or};
+ghost use Rattle.std.specs.Prelude.{◌+◌, ◌^◌, ◌≤◌, ◌<◌, ◌≡◌};
 ghost use Rattle.lists.specs.Places.{Below};
 ghost use Rattle.refusal.specs.Outcome.{refused_with, mapped, outcome_of};
 ghost use Rattle.byte.specs.Byte.{value_in, byte_at};
 ghost use Rattle.start.specs.Copies.{byte_place};
 ghost use Rattle.block.specs.Reading.{place_at, extent_of};
-ghost use Rattle.block.specs.Looking.{each_cause, no_tally, look_answer, place_read};
+ghost use Rattle.block.specs.Looking.{no_tally, look_answer, place_read};
 ghost use Rattle.block.specs.private.Checks.{values_checked};
 ghost use Rattle.block.specs.private.Both.{classes_of, read_both, tally_both};
 ghost use Rattle.block.specs.private.Causes.{with_byte, with_place};

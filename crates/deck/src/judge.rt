@@ -2,7 +2,7 @@
 ghost use Rattle.std.specs.Prelude.{◌<◌, ◌≤◌, ◌≡◌};
 ghost use Rattle.byte.specs.Byte.{is_good};
 ghost use Rattle.block.specs.Looking.{place_read};
-ghost use Rattle.deck.specs.Judge.{no_checks, check_countdown, add_value, add_lost, check_place, answer_by};
+ghost use Rattle.deck.specs.Judge.{no_checks, check_countdown, check_place, answer_by};
 
 use super::{Checks, decode, state};
 use block::PlaceRead;

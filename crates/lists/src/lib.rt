@@ -1,7 +1,7 @@
 // Definitions and laws on lists and numbers that every layer uses (specs/, proofs/), and numbers as bytes, low first.
 #![tactic(auto)]
 
-ghost use Rattle.std.specs.Prelude.{◌<◌, ◌≡◌, take, get_or};
+ghost use Rattle.std.specs.Prelude.{◌≡◌, take, get_or};
 ghost use Rattle.lists.specs.Text.{low_first, from_low};
 
 // Byte i of a number, the lowest first. There are four; past them it is 0.
