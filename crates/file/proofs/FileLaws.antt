@@ -78,7 +78,7 @@ not_program-wrong_type kind e = elim (or-true (ltb kind 1) (ltb 5 kind) e) [
 -- ---- measure_data
 
 module _ (f : Fields) where
-  measure_data-right : not_program f.kind ≡ false → wrong_addresses f ≡ false → measure_data f ≡ accepted (data_bytes f)
+  pub measure_data-right : not_program f.kind ≡ false → wrong_addresses f ≡ false → measure_data f ≡ accepted (data_bytes f)
   unfolding measure_data
   measure_data-right kind order = rw (kind, order)
 

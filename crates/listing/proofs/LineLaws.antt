@@ -81,7 +81,7 @@ width-digits (suc most) n = go (ltb n 10) (width-digits most (n / 10))
     go true h = omega arith
     go false h = rw length-append (omega arith)
 
-width-number : (n after : ℕ) → length (decimal n ++ after ∷ []) ≤ 21
+pub width-number : (n after : ℕ) → length (decimal n ++ after ∷ []) ≤ 21
 width-number n after = rw length-append (omega (arith, width-digits 20 n))
 
 -- ---- A refusal's line

@@ -1,16 +1,21 @@
 -- The search for a start: what its loop knows at a place, and what a look for a pulse that is not short tells.
 use Prim.Native.Nat.{ℕ, zero, suc, ◌+◌, ◌-◌, ◌≤◌, ◌<◌}
 use native.Mathlib.Decide.{dec_lt, ℕ_discrete}
+use native.Mathlib.Nat.{add-zero}
 use native.Mathlib.Omega.{arith}
 use mathlib.Core.Path.{◌≡◌, refl, sym, ap, ◌∙◌}
-use mathlib.Core.Bool.{Bool, true, false, not}
+use mathlib.Core.Bool.{Bool, true, false, not, ◌||◌}
+use Rattle.std.proofs.Math.Bool.{or_assoc, or-false}
 use mathlib.Core.List.{List}
-use Rattle.std.specs.Prelude.{None, Some}
+use Rattle.std.specs.Prelude.{Option, None, Some}
+use Rattle.std.specs.Option.{is_some}
 use Rattle.std.specs.List.{position_from}
 use borrow.Author.Tests.{not-false}
 use lib.ListN.{length, take, drop, get_or, length-drop}
 use lib.Seq.{get_or-drop, take_all}
+use Rattle.std.proofs.lemmas.List.{get_or-take, length-take-le}
 use Rattle.lists.specs.Places.{first_from, First}
+use Rattle.lists.proofs.LoopLaws.{first_left, first-passed, first-here, first-over}
 use Rattle.lists.proofs.PlaceLaws.{none_first, some_first, position-first, shifted, position-shifted}
 use Rattle.pulse.specs.declared.Thresholds.{Thresholds}
 use Rattle.pulse.specs.declared.Class.{Class}
@@ -68,6 +73,46 @@ module _ (f : ℕ → Bool) (at : ℕ) where
 
 pub not-short-at : (t : Thresholds) (strip : List ℕ) (i : ℕ) → i < length strip → not_short (classes t strip) i ≡ not (same (class_of t (get_or strip i 0)) Short)
 not-short-at t strip i h = ap (λ c. not (same c Short)) (class-at t strip i h)
+
+-- ---- Short pulses that are passed
+
+module _ (f : ℕ → Bool) (n : ℕ) where
+  -- a test of them all, from place i on
+  pub other-next : (other : Bool) (i : ℕ) → i < n → (other || is_some (first_left f n i)) ≡ is_some (first_from f n 0) → ((other || f i) || is_some (first_left f n (i + 1))) ≡ is_some (first_from f n 0)
+  other-next other i h e = or_assoc other (f i) (is_some (first_left f n (i + 1))) ∙ ap (λ x. other || x) (go (f i) refl) ∙ e
+    where
+      go : (t : Bool) → f i ≡ t → (t || is_some (first_left f n (i + 1))) ≡ is_some (first_left f n i)
+      go true q = ap is_some (sym (first-here f n i h q))
+      go false q = ap is_some (first-passed f n i h q)
+
+  pub other-done : (other : Bool) (i : ℕ) → n ≤ i → (other || is_some (first_left f n i)) ≡ is_some (first_from f n 0) → other ≡ is_some (first_from f n 0)
+  other-done other i h e = sym (or-false other) ∙ ap (λ o. other || is_some o) (sym (first-over f n i h)) ∙ e
+
+  -- a search from i on, where the k places from there fail, and one after them
+  pub skipped : (k i : ℕ) → i + k ≤ n → ((j : ℕ) → j < k → f (i + j) ≡ false) → first_left f n (i + k) ≡ first_left f n i
+  skipped zero i h a = ap (first_left f n) (add-zero i)
+  skipped (suc k) i h a =
+      ap (first_left f n) (let z : i + suc k ≡ i + 1 + k = omega arith in z)
+      ∙ skipped k (i + 1) (omega arith) (λ j b. ap f (let z : i + 1 + j ≡ i + suc j = omega arith in z) ∙ a (suc j) (omega arith))
+      ∙ first-passed f n i (omega arith) (ap f (sym (add-zero i)) ∙ a 0 (omega arith))
+
+not_some : (o : Option ℕ) → is_some o ≡ false → o ≡ None
+not_some None e = refl
+not_some (Some i) e = absurd (let z : ◌≡◌ {A = ℕ} 0 1 = cc in omega arith)
+
+-- a part of a strip with no other pulse is passed
+pub part-passed : (t : Thresholds) (strip : List ℕ) (i k : ℕ) → i + k ≤ length strip → {part : List ℕ} → part ≡ take (i + k - i) (drop i strip)
+    → is_some (first_from (not_short (classes t part)) (length part) 0) ≡ false
+    → first_left (not_short (classes t strip)) (length strip) (i + k) ≡ first_left (not_short (classes t strip)) (length strip) i
+part-passed t strip i k h {part} given s =
+    let e : part ≡ take k (drop i strip) = given ∙ ap (λ n. take n (drop i strip)) (let z : i + k - i ≡ k = omega arith in z) in
+    let size : length part ≡ k = ap length e ∙ length-take-le k (drop i strip) (omega (arith, length-drop i strip)) in
+    let none = none_first (not_short (classes t part)) (length part) 0 (not_some (first_from (not_short (classes t part)) (length part) 0) s) in
+    skipped (not_short (classes t strip)) (length strip) k i h (λ j b.
+    not-short-at t strip (i + j) (omega (arith, b, h))
+    ∙ ap (λ x. not (same (class_of t x) Short)) (sym (get_or-drop i strip j 0) ∙ sym (get_or-take k (drop i strip) j 0 b) ∙ ap (λ xs. get_or xs j 0) (sym e))
+    ∙ sym (not-short-at t part j (omega (arith, size, b)))
+    ∙ none j (omega arith) (omega (arith, size, b)))
 
 -- the search through the rest of a strip
 module _ (t : Thresholds) (strip : List ℕ) (at : ℕ) where

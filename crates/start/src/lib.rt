@@ -6,6 +6,7 @@
 
 ghost use Rattle.std.specs.Prelude.{◌+◌, ◌-◌, ◌≤◌, ◌≡◌, ltb, length};
 ghost use Rattle.refusal.specs.Outcome.{outcome_of};
+ghost use Rattle.std.specs.Option.{is_some};
 ghost use Rattle.lists.specs.Places.{first_from};
 ghost use Rattle.pulse.specs.Pulse.{classes};
 ghost use Rattle.start.specs.Start.{find_start, start_at};
@@ -90,15 +91,42 @@ fn last_not_short(t: Thresholds, strip: &[u32], at: usize) -> Option<usize>
     None
 }
 
+// Whether a pulse of a part is not short. It runs without a branch on a pulse, so that the compiler takes several at once.
+fn has_other(t: Thresholds, pulses: &[u32]) -> bool
+    ensures { result ≡ is_some (first_from (not_short (classes t pulses.now)) (length pulses.now) 0) }
+{
+    let mut other = false;
+    for pulse in pulses {
+        other |= !pulse::is_short(t, Cycles(*pulse));
+    }
+    other
+}
+
+// A place from `at` on, before which all pulses from `at` on are short: a leader is long, so sixteen are passed at a time.
+fn past_shorts(t: Thresholds, strip: &[u32], at: usize) -> usize
+    ensures { first_from (not_short (classes t strip.now)) (length strip.now - result) result ≡ first_from (not_short (classes t strip.now)) (length strip.now - at) at }
+{
+    let mut i = at;
+    // A while, since a turn passes sixteen.
+    while SYNC_SHORTS <= strip.len().saturating_sub(i) {
+        if has_other(t, &strip[i..i + SYNC_SHORTS]) {
+            return i;
+        }
+        i += SYNC_SHORTS;
+    }
+    i
+}
+
 // The first pulse from a place on that is not short.
 fn first_not_short(t: Thresholds, strip: &[u32], at: usize) -> Option<usize>
     ensures { result ≡ first_from (not_short (classes t strip.now)) (length strip.now - at) at }
 {
-    let rest = strip.get(at..)?;
+    let from = past_shorts(t, strip, at);
+    let rest = strip.get(from..)?;
     let first = rest
         .iter()
         .position(|pulse| !pulse::is_short(t, Cycles(*pulse)))?;
-    Some(at + first)
+    Some(from + first)
 }
 
 // Rule 1. The search looks at the sixteen pulses from `at` on, the last one first. A pulse that is not short rules out the sixteen places

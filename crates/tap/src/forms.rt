@@ -75,6 +75,13 @@ impl Form {
     }
 }
 
+// How many bytes a duration is written in; 0 where it has no form.
+pub fn width_of(version: u8, duration: Cycles) -> u32
+    ensures { result ≡ length (form_of version duration.0) }
+{
+    form_of(version, duration).map_or(0, Form::width)
+}
+
 // The form of a duration, where it has one.
 pub fn form_of(version: u8, duration: Cycles) -> Option<Form>
     ensures { bytes_of result ≡ form_of version duration.0 }

@@ -48,7 +48,8 @@ fn sum_widths(version: u8, durations: &[u32]) -> Option<u32>
 fn first_without(version: u8, durations: &[u32]) -> Option<usize>
     ensures { result ≡ first_without version durations.now }
 {
-    durations.iter().position(|duration| forms::form_of(version, Cycles(*duration)).is_none())
+    // By its width: `is_none` of a form takes twice as long.
+    durations.iter().position(|duration| forms::width_of(version, Cycles(*duration)) == 0)
 }
 
 // Writes a file of n data bytes, at most four for each duration.

@@ -12,18 +12,18 @@ use Rattle.start.proofs.first_not_short.Goals as goal
 
 pub returns-in_err-rest : goal.returns-in_err-rest
 returns-in_err-rest c =
-    let past : length c.args.strip.now ≤ c.args.at = search rules in
-    c.from_residual.ensures ∙ sym (first-over (not_short (classes c.args.t c.args.strip.now)) _ c.args.at past)
+    let past : length c.args.strip.now ≤ c.past_shorts-from.result = search rules in
+    c.from_residual.ensures ∙ sym (first-over (not_short (classes c.args.t c.args.strip.now)) _ c.past_shorts-from.result past) ∙ c.past_shorts-from.ensures
 
 pub returns-in_err-first : goal.returns-in_err-first
 returns-in_err-first c =
-    let found = position_from_yields_List (other c.args.t c.args.strip.now c.args.at) _ _ c.position.result c.position.ensures.ran (YieldsList-from_slice c.in_ok-rest.rest.now cc) (λ x b q k. search rules) in
-    let rest : c.in_ok-rest.rest.now ≡ drop c.args.at c.args.strip.now = rest-whole c.args.t c.args.strip.now c.args.at c.in_ok-rest.ensures.lookup.0.2 in
+    let found = position_from_yields_List (other c.args.t c.args.strip.now c.past_shorts-from.result) _ _ c.position.result c.position.ensures.ran (YieldsList-from_slice c.in_ok-rest.rest.now cc) (λ x b q k. search rules) in
+    let rest : c.in_ok-rest.rest.now ≡ drop c.past_shorts-from.result c.args.strip.now = rest-whole c.args.t c.args.strip.now c.past_shorts-from.result c.in_ok-rest.ensures.lookup.0.2 in
     c.from_residual-in_err-first.ensures
-    ∙ rest-none c.args.t c.args.strip.now c.args.at (rw (← rest) (sym (position_from-zero (other c.args.t c.args.strip.now c.args.at) c.in_ok-rest.rest.now) ∙ sym found ∙ c.in_err-first.was))
+    ∙ rest-none c.args.t c.args.strip.now c.past_shorts-from.result (rw (← rest) (sym (position_from-zero (other c.args.t c.args.strip.now c.past_shorts-from.result) c.in_ok-rest.rest.now) ∙ sym found ∙ c.in_err-first.was)) ∙ c.past_shorts-from.ensures
 
 pub returns : goal.returns
 returns c =
-    let found = position_from_yields_List (other c.args.t c.args.strip.now c.args.at) _ _ c.position.result c.position.ensures.ran (YieldsList-from_slice c.in_ok-rest.rest.now cc) (λ x b q k. search rules) in
-    let rest : c.in_ok-rest.rest.now ≡ drop c.args.at c.args.strip.now = rest-whole c.args.t c.args.strip.now c.args.at c.in_ok-rest.ensures.lookup.0.2 in
-    rest-some c.args.t c.args.strip.now c.args.at (rw (← rest) (sym (position_from-zero (other c.args.t c.args.strip.now c.args.at) c.in_ok-rest.rest.now) ∙ sym found ∙ c.in_ok-first.was))
+    let found = position_from_yields_List (other c.args.t c.args.strip.now c.past_shorts-from.result) _ _ c.position.result c.position.ensures.ran (YieldsList-from_slice c.in_ok-rest.rest.now cc) (λ x b q k. search rules) in
+    let rest : c.in_ok-rest.rest.now ≡ drop c.past_shorts-from.result c.args.strip.now = rest-whole c.args.t c.args.strip.now c.past_shorts-from.result c.in_ok-rest.ensures.lookup.0.2 in
+    rest-some c.args.t c.args.strip.now c.past_shorts-from.result (rw (← rest) (sym (position_from-zero (other c.args.t c.args.strip.now c.past_shorts-from.result) c.in_ok-rest.rest.now) ∙ sym found ∙ c.in_ok-first.was)) ∙ c.past_shorts-from.ensures
