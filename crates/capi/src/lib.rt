@@ -287,7 +287,11 @@ pub extern "C" fn tape_pack_header(
 pub extern "C" fn tape_unpack_header(header: &[u8]) -> TapeFile
     ensures { result ≡ flat_file (mapped lone_header (unpack_header header.now)) }
 {
-    TapeFile::from(header::unpack_header(header).map(|fields| Loaded { fields, stop: 0 }))
+    // By `map` of the answer the fields go over the stack, and the call takes twice as long.
+    match header::unpack_header(header) {
+        Ok(fields) => TapeFile::from(Ok(Loaded { fields, stop: 0 })),
+        Err(why) => TapeFile::from(Err(why)),
+    }
 }
 
 // A refusal has no span, so it has an arm of its own, as in the conversions below.
