@@ -39,6 +39,9 @@ pub const TRAILER_PULSES: usize = 1 + TRAILER_SHORTS;
 // The pulses of two copies without payload and of the trailer between them.
 const LEAST_PULSES: usize = 2 * byte::BYTE_PULSES * EXTRA_BYTES + TRAILER_PULSES;
 
+// How many short pulses are passed at a time: more are no faster, and cost more where a run ends.
+const PASSED_SHORTS: usize = 8;
+
 // Where the copies of a block begin, and the place after copy two.
 #[derive(Clone, Copy)]
 pub struct Copies {
@@ -102,17 +105,17 @@ fn has_other(t: Thresholds, pulses: &[u32]) -> bool
     other
 }
 
-// A place from `at` on, before which all pulses from `at` on are short: a leader is long, so sixteen are passed at a time.
+// A place from `at` on, before which all pulses from `at` on are short: a leader is long, so eight are passed at a time.
 fn past_shorts(t: Thresholds, strip: &[u32], at: usize) -> usize
     ensures { first_from (not_short (classes t strip.now)) (length strip.now - result) result ≡ first_from (not_short (classes t strip.now)) (length strip.now - at) at }
 {
     let mut i = at;
-    // A while, since a turn passes sixteen.
-    while SYNC_SHORTS <= strip.len().saturating_sub(i) {
-        if has_other(t, &strip[i..i + SYNC_SHORTS]) {
+    // A while, since a turn passes eight.
+    while PASSED_SHORTS <= strip.len().saturating_sub(i) {
+        if has_other(t, &strip[i..i + PASSED_SHORTS]) {
             return i;
         }
-        i += SYNC_SHORTS;
+        i += PASSED_SHORTS;
     }
     i
 }
