@@ -105,7 +105,7 @@ fn has_other(t: Thresholds, pulses: &[u32]) -> bool
     other
 }
 
-// A place from `at` on, before which all pulses from `at` on are short: a leader is long, so eight are passed at a time.
+// A place from which the first pulse that is not short is that from `at` on: a leader is long, so eight are passed at a time.
 fn past_shorts(t: Thresholds, strip: &[u32], at: usize) -> usize
     ensures { first_from (not_short (classes t strip.now)) (length strip.now - result) result ≡ first_from (not_short (classes t strip.now)) (length strip.now - at) at }
 {
